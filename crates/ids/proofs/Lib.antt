@@ -1,0 +1,3 @@
+pub mod BigEndian
+pub mod Ids
+pub mod Words

@@ -1,0 +1,2 @@
+pub mod Id
+pub mod Names

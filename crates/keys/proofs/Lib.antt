@@ -1,0 +1,14 @@
+pub mod Single
+pub mod Says
+pub mod Picks
+pub mod ByteOrder
+pub mod Shared
+pub mod Prefixes
+pub mod Grows
+pub mod Ranges
+pub mod Sorts
+pub mod Meets
+pub mod Places
+pub mod Past
+pub mod Emptying
+pub mod Arms
