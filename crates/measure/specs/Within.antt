@@ -1,0 +1,42 @@
+-- L1's numbers, over a manifest of the model.
+use Prim.Native.Nat.{ℕ}
+use mathlib.Core.Bool.{Bool, _&&_}
+use mathlib.Core.List.{List, [], _∷_, _++_}
+use lib.Dec.{leb}
+use lib.ListN.{length}
+use Rattle.tables.specs.Layout.{joined}
+use Rattle.records.specs.Model.{View, Run, Tree, Segment, Borrow, Manifest, trees}
+use Rattle.records.specs.Fill.{fits, manifestFill, viewKeys, nameKeys}
+use Rattle.records.specs.declared.Limits.{Limits}
+use Rattle.measure.specs.Tests.{allOf}
+
+-- ---- all views and all runs of a manifest, in record order
+
+abbrev pub runViews : Run → List View
+runViews r = r .views
+
+abbrev pub treeViews : Tree → List View
+treeViews t = t .l0 ++ joined runViews (t .runs)
+
+abbrev pub treeRuns : Tree → List Run
+treeRuns t = t .runs
+
+unfoldable pub allViews : Manifest → List View
+allViews m = joined treeViews (trees m)
+
+unfoldable pub allRuns : Manifest → List Run
+allRuns m = joined treeRuns (trees m)
+
+-- a byte string of at most so many bytes
+abbrev pub short : ℕ → List ℕ → Bool
+short most k = leb (length k) most
+
+-- "L1: at most 64 segments, 512 views, 128 runs, 32 borrows, 512 borrowed ids; prefix and extractor name at most 32 bytes, key
+-- and path at most 64; all prefixes, keys (bounds too), paths and the name together at most 8,192 bytes, each occurrence counted"
+unfoldable pub within : Limits → Manifest → Bool
+within lim m =
+    fits (manifestFill m) (lim .fill)
+    && allOf (λ s. short (lim .prefix) (s .prefix)) (m .segments)
+    && allOf (short (lim .name)) (nameKeys (m .extractor))
+    && allOf (λ v. allOf (short (lim .key)) (viewKeys v)) (allViews m)
+    && allOf (λ b. short (lim .path) (b .path)) (m .borrows)

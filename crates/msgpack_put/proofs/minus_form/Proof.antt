@@ -1,0 +1,24 @@
+use borrow.Author.Needs.{needs}
+use borrow.Author.Tests.{lt-ltb, le-ltb}
+use lib.Dec.{lit≤}
+use Rattle.keys.specs.BigEndian.{beBytes}
+use Rattle.msgpack_put.specs.Write.{minusBytes}
+use Rattle.msgpack_put.proofs.minus_form.Statement.{statement}
+use Rattle.msgpack_put.proofs.minus_form.Tie as tie
+
+pub minus-form-spec : {M : Type 1} → statement M
+unfolding minusBytes beBytes
+minus-form-spec =
+    tie.close
+    (tie.spec
+    (λ c. search needs)
+    (λ c. search needs)
+    (λ c. (simp (lt-ltb _ _ (c .if1 .taken)), lit≤ tt))
+    (λ c. search needs)
+    (λ c. (simp (le-ltb _ _ (c .before .if1 .left), lt-ltb _ _ (c .if2 .taken)), lit≤ tt))
+    (λ c. search needs)
+    (λ c. (simp (le-ltb _ _ (c .before .before .if1 .left), le-ltb _ _ (c .before .if2 .left), lt-ltb _ _ (c .if3 .taken)), lit≤ tt))
+    (λ c. search needs)
+    (λ c. (simp (le-ltb _ _ (c .before .before .before .if1 .left), le-ltb _ _ (c .before .before .if2 .left), le-ltb _ _ (c .before .if3 .left), lt-ltb _ _ (c .if4 .taken)), lit≤ tt))
+    (λ c. search needs)
+    (λ c. (simp (le-ltb _ _ (c .before .before .before .if1 .left), le-ltb _ _ (c .before .before .if2 .left), le-ltb _ _ (c .before .if3 .left), le-ltb _ _ (c .if4 .left)), lit≤ tt)))

@@ -1,0 +1,9 @@
+pub mod Decode
+pub mod Fill
+pub mod Layout
+pub mod Limits
+pub mod Model
+pub mod New
+pub mod Refusals
+pub mod Row
+pub mod Words

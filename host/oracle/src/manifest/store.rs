@@ -1,0 +1,1 @@
+// Document 01 leaves `store` out; mod.rs only declares the module.
