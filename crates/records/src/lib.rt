@@ -13,8 +13,10 @@ use tables::ix;
 ghost use mathlib.Core.Path.{_≡_};
 ghost use Prim.Native.Nat.{_+_, _*_, _/_, _≤_, _<_};
 ghost use lib.ListN.{length};
+ghost use mathlib.Core.List.{[], _∷_};
 ghost use Rattle.records.specs.Row.{placeAt, windowAt, boundOf, boundAt, lastAt, visibleAt, viewMarkAt, sstMarkAt, finalAt, viewAt, runAt, treeAt, segmentAt, borrowAt, idAt};
 ghost use Rattle.records.specs.Words.{boundCell, lastCell, viewMarkCell, sstMarkCell, finalCell, visibleCells, viewWords, runWords, segmentWords, borrowWords, idWords};
+ghost use Rattle.records.specs.Refusals.{refusal};
 ghost use Rattle.records.specs.Limits.{limits01};
 
 // A byte string: so many bytes of the pool.
@@ -133,6 +135,92 @@ pub enum Refusal {
     TooFewFresh,
     NotWellFormed(usize),
     NotTheRecord(usize),
+}
+
+// A refusal as document 01 numbers it.
+pub struct Told {
+    pub number: usize,
+    pub place: usize,
+}
+
+// The number and the place of a refusal.
+pub fn tell(x: Refusal) -> Told
+    ensures { λ r. ⌜ r .number ∷ r .place ∷ [] ≡ refusal x ⌝ }
+{
+    match x {
+        Refusal::Unlawful(i) => Told {
+            number: 1,
+            place: i,
+        },
+        Refusal::OverLimit => Told {
+            number: 2,
+            place: 0,
+        },
+        Refusal::Nests(i) => Told {
+            number: 3,
+            place: i,
+        },
+        Refusal::NoRoom => Told {
+            number: 4,
+            place: 0,
+        },
+        Refusal::EmptyRange => Told {
+            number: 5,
+            place: 0,
+        },
+        Refusal::CompactorOnly(i) => Told {
+            number: 6,
+            place: i,
+        },
+        Refusal::KeptNest(i) => Told {
+            number: 7,
+            place: i,
+        },
+        Refusal::OwnEmpty(i) => Told {
+            number: 8,
+            place: i,
+        },
+        Refusal::OwnOutside(i) => Told {
+            number: 9,
+            place: i,
+        },
+        Refusal::MaskBit(i) => Told {
+            number: 10,
+            place: i,
+        },
+        Refusal::ExtractorsDiffer => Told {
+            number: 11,
+            place: 0,
+        },
+        Refusal::Overlap(i) => Told {
+            number: 12,
+            place: i,
+        },
+        Refusal::SegmentsUnnamed => Told {
+            number: 13,
+            place: 0,
+        },
+        Refusal::SourcesNest => Told {
+            number: 14,
+            place: 0,
+        },
+        Refusal::NoFinal => Told {
+            number: 15,
+            place: 0,
+        },
+        Refusal::TooFewFresh => Told {
+            number: 16,
+            place: 0,
+        },
+        Refusal::NotWellFormed(i) => Told {
+            number: 18,
+            place: i,
+        },
+        Refusal::NotTheRecord(i) => Told {
+            number: 19,
+            place: i,
+        },
+    }
 }
 
 // Document 01's limits, each number once.
