@@ -24,16 +24,19 @@ fn rows(first: usize, count: usize) -> Window {
     Window { first, count }
 }
 
-fn show(
-    name: &[u8],
-    segments: &[u64],
-    views: &[u64],
-    runs: &[u64],
-    borrows: &[u64],
-    ids: &[u64],
-    pool: &[u8],
-    m: ManifestRow,
-) {
+// The tables stand one after the other in `t`: 100 segments, 680 views, 150 runs, 45 borrows, 513 ids. The pool has 94 bytes in
+// ascending order, with a at place 64, and after them a and 0.
+fn show(name: &[u8], t: &[u64], m: ManifestRow) {
+    if t.len() != 13961 {
+        return;
+    }
+    let segments = &t[0..1200];
+    let views = &t[1200..12080];
+    let runs = &t[12080..12530];
+    let borrows = &t[12530..12935];
+    let ids = &t[12935..13961];
+    let pool =
+        b"!\"#$%&'()*+,-./0123456789:;<=>?@ABCDEFGHIJKLMNOPQRSTUVWXYZ[\\]^_`abcdefghijklmnopqrstuvwxyz{|}~a\0";
     put(name);
     put(b": ");
     match lawful::lawful(limits_01(), segments, views, runs, borrows, ids, pool, m) {
@@ -71,25 +74,10 @@ fn manifest(
     }
 }
 
-fn of_l0(
-    name: &[u8],
-    segments: &[u64],
-    views: &[u64],
-    runs: &[u64],
-    borrows: &[u64],
-    ids: &[u64],
-    pool: &[u8],
-    first: usize,
-    count: usize,
-) {
+fn of_l0(name: &[u8], t: &[u64], first: usize, count: usize) {
     show(
         name,
-        segments,
-        views,
-        runs,
-        borrows,
-        ids,
-        pool,
+        t,
         manifest(
             rows(first, count),
             rows(0, 0),
@@ -100,25 +88,10 @@ fn of_l0(
     );
 }
 
-fn of_runs(
-    name: &[u8],
-    segments: &[u64],
-    views: &[u64],
-    runs: &[u64],
-    borrows: &[u64],
-    ids: &[u64],
-    pool: &[u8],
-    first: usize,
-    count: usize,
-) {
+fn of_runs(name: &[u8], t: &[u64], first: usize, count: usize) {
     show(
         name,
-        segments,
-        views,
-        runs,
-        borrows,
-        ids,
-        pool,
+        t,
         manifest(
             rows(0, 0),
             rows(first, count),
@@ -129,25 +102,10 @@ fn of_runs(
     );
 }
 
-fn of_segments(
-    name: &[u8],
-    segments: &[u64],
-    views: &[u64],
-    runs: &[u64],
-    borrows: &[u64],
-    ids: &[u64],
-    pool: &[u8],
-    first: usize,
-    count: usize,
-) {
+fn of_segments(name: &[u8], t: &[u64], first: usize, count: usize) {
     show(
         name,
-        segments,
-        views,
-        runs,
-        borrows,
-        ids,
-        pool,
+        t,
         manifest(
             rows(0, 0),
             rows(0, 0),
@@ -158,25 +116,10 @@ fn of_segments(
     );
 }
 
-fn of_borrows(
-    name: &[u8],
-    segments: &[u64],
-    views: &[u64],
-    runs: &[u64],
-    borrows: &[u64],
-    ids: &[u64],
-    pool: &[u8],
-    first: usize,
-    count: usize,
-) {
+fn of_borrows(name: &[u8], t: &[u64], first: usize, count: usize) {
     show(
         name,
-        segments,
-        views,
-        runs,
-        borrows,
-        ids,
-        pool,
+        t,
         manifest(
             rows(0, 0),
             rows(0, 0),
@@ -187,27 +130,10 @@ fn of_borrows(
     );
 }
 
-fn of_name(
-    name: &[u8],
-    segments: &[u64],
-    views: &[u64],
-    runs: &[u64],
-    borrows: &[u64],
-    ids: &[u64],
-    pool: &[u8],
-    first: usize,
-    count: usize,
-    at: usize,
-    len: usize,
-) {
+fn of_name(name: &[u8], t: &[u64], first: usize, count: usize, at: usize, len: usize) {
     show(
         name,
-        segments,
-        views,
-        runs,
-        borrows,
-        ids,
-        pool,
+        t,
         manifest(
             rows(first, count),
             rows(0, 0),
@@ -218,27 +144,10 @@ fn of_name(
     );
 }
 
-fn of_all(
-    name: &[u8],
-    segments: &[u64],
-    views: &[u64],
-    runs: &[u64],
-    borrows: &[u64],
-    ids: &[u64],
-    pool: &[u8],
-    l0: Window,
-    compacted: Window,
-    window: Window,
-    len: usize,
-) {
+fn of_all(name: &[u8], t: &[u64], l0: Window, compacted: Window, window: Window, len: usize) {
     show(
         name,
-        segments,
-        views,
-        runs,
-        borrows,
-        ids,
-        pool,
+        t,
         manifest(
             l0,
             compacted,
@@ -250,1451 +159,491 @@ fn of_all(
 }
 
 // L1: as many as may be, and one more.
-fn show_counts(
-    segments: &[u64],
-    views: &[u64],
-    runs: &[u64],
-    borrows: &[u64],
-    ids: &[u64],
-    pool: &[u8],
-) {
-    of_l0(b"nothing", segments, views, runs, borrows, ids, pool, 0, 0);
-    of_segments(
-        b"64 segments",
-        segments,
-        views,
-        runs,
-        borrows,
-        ids,
-        pool,
-        0,
-        64,
-    );
-    of_segments(
-        b"65 segments",
-        segments,
-        views,
-        runs,
-        borrows,
-        ids,
-        pool,
-        0,
-        65,
-    );
-    of_l0(
-        b"512 views",
-        segments,
-        views,
-        runs,
-        borrows,
-        ids,
-        pool,
-        0,
-        512,
-    );
-    of_l0(
-        b"513 views",
-        segments,
-        views,
-        runs,
-        borrows,
-        ids,
-        pool,
-        0,
-        513,
-    );
-    of_segments(
-        b"512 views in two windows on the same rows",
-        segments,
-        views,
-        runs,
-        borrows,
-        ids,
-        pool,
-        85,
-        2,
-    );
-    of_segments(
-        b"513 views in three",
-        segments,
-        views,
-        runs,
-        borrows,
-        ids,
-        pool,
-        85,
-        3,
-    );
-    of_runs(
-        b"128 runs",
-        segments,
-        views,
-        runs,
-        borrows,
-        ids,
-        pool,
-        0,
-        128,
-    );
-    of_runs(
-        b"129 runs",
-        segments,
-        views,
-        runs,
-        borrows,
-        ids,
-        pool,
-        0,
-        129,
-    );
+fn show_counts(t: &[u64]) {
+    of_l0(b"nothing", t, 0, 0);
+    of_segments(b"64 segments", t, 0, 64);
+    of_segments(b"65 segments", t, 0, 65);
+    of_l0(b"512 views", t, 0, 512);
+    of_l0(b"513 views", t, 0, 513);
+    of_segments(b"512 views in two windows on the same rows", t, 85, 2);
+    of_segments(b"513 views in three", t, 85, 3);
+    of_runs(b"128 runs", t, 0, 128);
+    of_runs(b"129 runs", t, 0, 129);
 }
 
 // L1: borrows, their ids and paths.
-fn show_borrows(
-    segments: &[u64],
-    views: &[u64],
-    runs: &[u64],
-    borrows: &[u64],
-    ids: &[u64],
-    pool: &[u8],
-) {
-    of_borrows(
-        b"32 borrows",
-        segments,
-        views,
-        runs,
-        borrows,
-        ids,
-        pool,
-        0,
-        32,
-    );
-    of_borrows(
-        b"33 borrows",
-        segments,
-        views,
-        runs,
-        borrows,
-        ids,
-        pool,
-        0,
-        33,
-    );
-    of_borrows(b"512 ids", segments, views, runs, borrows, ids, pool, 33, 1);
-    of_borrows(b"513 ids", segments, views, runs, borrows, ids, pool, 34, 1);
-    of_borrows(
-        b"a path of 64 bytes",
-        segments,
-        views,
-        runs,
-        borrows,
-        ids,
-        pool,
-        35,
-        1,
-    );
-    of_borrows(
-        b"a path of 65 bytes",
-        segments,
-        views,
-        runs,
-        borrows,
-        ids,
-        pool,
-        36,
-        1,
-    );
-    of_borrows(
-        b"an empty path",
-        segments,
-        views,
-        runs,
-        borrows,
-        ids,
-        pool,
-        0,
-        1,
-    );
+fn show_borrows(t: &[u64]) {
+    of_borrows(b"32 borrows", t, 0, 32);
+    of_borrows(b"33 borrows", t, 0, 33);
+    of_borrows(b"512 ids", t, 33, 1);
+    of_borrows(b"513 ids", t, 34, 1);
+    of_borrows(b"a path of 64 bytes", t, 35, 1);
+    of_borrows(b"a path of 65 bytes", t, 36, 1);
+    of_borrows(b"an empty path", t, 0, 1);
 }
 
 // L1: how long each kind of byte string may be.
-fn show_lengths(
-    segments: &[u64],
-    views: &[u64],
-    runs: &[u64],
-    borrows: &[u64],
-    ids: &[u64],
-    pool: &[u8],
-) {
-    of_segments(
-        b"a prefix of 32 bytes",
-        segments,
-        views,
-        runs,
-        borrows,
-        ids,
-        pool,
-        65,
-        1,
-    );
-    of_segments(
-        b"a prefix of 33 bytes",
-        segments,
-        views,
-        runs,
-        borrows,
-        ids,
-        pool,
-        66,
-        1,
-    );
-    of_l0(
-        b"a first key of 64 bytes",
-        segments,
-        views,
-        runs,
-        borrows,
-        ids,
-        pool,
-        513,
-        1,
-    );
-    of_l0(
-        b"a first key of 65 bytes",
-        segments,
-        views,
-        runs,
-        borrows,
-        ids,
-        pool,
-        641,
-        1,
-    );
-    of_l0(
-        b"a last key of 64 bytes",
-        segments,
-        views,
-        runs,
-        borrows,
-        ids,
-        pool,
-        642,
-        1,
-    );
-    of_l0(
-        b"a last key of 65 bytes",
-        segments,
-        views,
-        runs,
-        borrows,
-        ids,
-        pool,
-        643,
-        1,
-    );
-    of_l0(
-        b"a start of 64 bytes",
-        segments,
-        views,
-        runs,
-        borrows,
-        ids,
-        pool,
-        644,
-        1,
-    );
-    of_l0(
-        b"a start of 65 bytes",
-        segments,
-        views,
-        runs,
-        borrows,
-        ids,
-        pool,
-        645,
-        1,
-    );
-    of_l0(
-        b"an end of 64 bytes",
-        segments,
-        views,
-        runs,
-        borrows,
-        ids,
-        pool,
-        646,
-        1,
-    );
-    of_l0(
-        b"an end of 65 bytes",
-        segments,
-        views,
-        runs,
-        borrows,
-        ids,
-        pool,
-        647,
-        1,
-    );
+fn show_lengths(t: &[u64]) {
+    of_segments(b"a prefix of 32 bytes", t, 65, 1);
+    of_segments(b"a prefix of 33 bytes", t, 66, 1);
+    of_l0(b"a first key of 64 bytes", t, 513, 1);
+    of_l0(b"a first key of 65 bytes", t, 641, 1);
+    of_l0(b"a last key of 64 bytes", t, 642, 1);
+    of_l0(b"a last key of 65 bytes", t, 643, 1);
+    of_l0(b"a start of 64 bytes", t, 644, 1);
+    of_l0(b"a start of 65 bytes", t, 645, 1);
+    of_l0(b"an end of 64 bytes", t, 646, 1);
+    of_l0(b"an end of 65 bytes", t, 647, 1);
 }
 
 // L1: the name, and all bytes together.
-fn show_names(
-    segments: &[u64],
-    views: &[u64],
-    runs: &[u64],
-    borrows: &[u64],
-    ids: &[u64],
-    pool: &[u8],
-) {
-    of_name(
-        b"a name of 32 bytes",
-        segments,
-        views,
-        runs,
-        borrows,
-        ids,
-        pool,
-        0,
-        0,
-        0,
-        32,
-    );
-    of_name(
-        b"a name of 33 bytes",
-        segments,
-        views,
-        runs,
-        borrows,
-        ids,
-        pool,
-        0,
-        0,
-        0,
-        33,
-    );
-    of_name(
-        b"an empty name",
-        segments,
-        views,
-        runs,
-        borrows,
-        ids,
-        pool,
-        0,
-        0,
-        0,
-        0,
-    );
-    of_name(
-        b"a name outside the pool",
-        segments,
-        views,
-        runs,
-        borrows,
-        ids,
-        pool,
-        0,
-        0,
-        96,
-        1,
-    );
-    of_l0(
-        b"8,192 bytes",
-        segments,
-        views,
-        runs,
-        borrows,
-        ids,
-        pool,
-        513,
-        128,
-    );
-    of_name(
-        b"8,193 bytes",
-        segments,
-        views,
-        runs,
-        borrows,
-        ids,
-        pool,
-        513,
-        128,
-        0,
-        1,
-    );
+fn show_names(t: &[u64]) {
+    of_name(b"a name of 32 bytes", t, 0, 0, 0, 32);
+    of_name(b"a name of 33 bytes", t, 0, 0, 0, 33);
+    of_name(b"an empty name", t, 0, 0, 0, 0);
+    of_name(b"a name outside the pool", t, 0, 0, 96, 1);
+    of_l0(b"8,192 bytes", t, 513, 128);
+    of_name(b"8,193 bytes", t, 513, 128, 0, 1);
 }
 
 // L1: a window outside its table.
-fn show_outside(
-    segments: &[u64],
-    views: &[u64],
-    runs: &[u64],
-    borrows: &[u64],
-    ids: &[u64],
-    pool: &[u8],
-) {
-    of_segments(
-        b"the last segment of the table",
-        segments,
-        views,
-        runs,
-        borrows,
-        ids,
-        pool,
-        99,
-        1,
-    );
-    of_segments(
-        b"a segment outside the table",
-        segments,
-        views,
-        runs,
-        borrows,
-        ids,
-        pool,
-        100,
-        1,
-    );
+fn show_outside(t: &[u64]) {
+    of_segments(b"the last segment of the table", t, 99, 1);
+    of_segments(b"a segment outside the table", t, 100, 1);
     of_segments(
         b"a window whose end is past all numbers",
-        segments,
-        views,
-        runs,
-        borrows,
-        ids,
-        pool,
+        t,
         0xffffffffffffffff,
         2,
     );
-    of_l0(
-        b"a view outside the table",
-        segments,
-        views,
-        runs,
-        borrows,
-        ids,
-        pool,
-        680,
-        1,
-    );
-    of_runs(
-        b"a run outside the table",
-        segments,
-        views,
-        runs,
-        borrows,
-        ids,
-        pool,
-        150,
-        1,
-    );
-    of_runs(
-        b"a run's view outside the table",
-        segments,
-        views,
-        runs,
-        borrows,
-        ids,
-        pool,
-        131,
-        1,
-    );
-    of_borrows(
-        b"a borrow outside the table",
-        segments,
-        views,
-        runs,
-        borrows,
-        ids,
-        pool,
-        45,
-        1,
-    );
-    of_borrows(
-        b"an id outside the table",
-        segments,
-        views,
-        runs,
-        borrows,
-        ids,
-        pool,
-        40,
-        1,
-    );
-    of_segments(
-        b"a segment's view outside the table",
-        segments,
-        views,
-        runs,
-        borrows,
-        ids,
-        pool,
-        83,
-        1,
-    );
-    of_segments(
-        b"a segment's run outside the table",
-        segments,
-        views,
-        runs,
-        borrows,
-        ids,
-        pool,
-        84,
-        1,
-    );
+    of_l0(b"a view outside the table", t, 680, 1);
+    of_runs(b"a run outside the table", t, 150, 1);
+    of_runs(b"a run's view outside the table", t, 131, 1);
+    of_borrows(b"a borrow outside the table", t, 45, 1);
+    of_borrows(b"an id outside the table", t, 40, 1);
+    of_segments(b"a segment's view outside the table", t, 83, 1);
+    of_segments(b"a segment's run outside the table", t, 84, 1);
 }
 
 // L1: a place outside the pool.
-fn show_places(
-    segments: &[u64],
-    views: &[u64],
-    runs: &[u64],
-    borrows: &[u64],
-    ids: &[u64],
-    pool: &[u8],
-) {
-    of_segments(
-        b"a prefix outside the pool",
-        segments,
-        views,
-        runs,
-        borrows,
-        ids,
-        pool,
-        75,
-        1,
-    );
-    of_segments(
-        b"an empty prefix at the end of the pool",
-        segments,
-        views,
-        runs,
-        borrows,
-        ids,
-        pool,
-        76,
-        1,
-    );
-    of_borrows(
-        b"a path outside the pool",
-        segments,
-        views,
-        runs,
-        borrows,
-        ids,
-        pool,
-        37,
-        1,
-    );
-    of_l0(
-        b"a first key outside the pool",
-        segments,
-        views,
-        runs,
-        borrows,
-        ids,
-        pool,
-        648,
-        1,
-    );
-    of_l0(
-        b"a last key outside the pool",
-        segments,
-        views,
-        runs,
-        borrows,
-        ids,
-        pool,
-        649,
-        1,
-    );
-    of_l0(
-        b"a start outside the pool",
-        segments,
-        views,
-        runs,
-        borrows,
-        ids,
-        pool,
-        650,
-        1,
-    );
-    of_l0(
-        b"an end outside the pool",
-        segments,
-        views,
-        runs,
-        borrows,
-        ids,
-        pool,
-        651,
-        1,
-    );
-    of_l0(
-        b"an unknown last key's place is not read",
-        segments,
-        views,
-        runs,
-        borrows,
-        ids,
-        pool,
-        656,
-        1,
-    );
+fn show_places(t: &[u64]) {
+    of_segments(b"a prefix outside the pool", t, 75, 1);
+    of_segments(b"an empty prefix at the end of the pool", t, 76, 1);
+    of_borrows(b"a path outside the pool", t, 37, 1);
+    of_l0(b"a first key outside the pool", t, 648, 1);
+    of_l0(b"a last key outside the pool", t, 649, 1);
+    of_l0(b"a start outside the pool", t, 650, 1);
+    of_l0(b"an end outside the pool", t, 651, 1);
+    of_l0(b"an unknown last key's place is not read", t, 656, 1);
 }
 
 // L1: a code that stands for nothing.
-fn show_codes(
-    segments: &[u64],
-    views: &[u64],
-    runs: &[u64],
-    borrows: &[u64],
-    ids: &[u64],
-    pool: &[u8],
-) {
-    of_l0(
-        b"a last key of code 2",
-        segments,
-        views,
-        runs,
-        borrows,
-        ids,
-        pool,
-        652,
-        1,
-    );
-    of_l0(
-        b"a visible range of code 2",
-        segments,
-        views,
-        runs,
-        borrows,
-        ids,
-        pool,
-        653,
-        1,
-    );
-    of_l0(
-        b"a start of code 3",
-        segments,
-        views,
-        runs,
-        borrows,
-        ids,
-        pool,
-        654,
-        1,
-    );
-    of_l0(
-        b"an end of code 3",
-        segments,
-        views,
-        runs,
-        borrows,
-        ids,
-        pool,
-        655,
-        1,
-    );
-    of_segments(
-        b"a view watermark of code 2",
-        segments,
-        views,
-        runs,
-        borrows,
-        ids,
-        pool,
-        78,
-        1,
-    );
-    of_segments(
-        b"an SST watermark of code 2",
-        segments,
-        views,
-        runs,
-        borrows,
-        ids,
-        pool,
-        79,
-        1,
-    );
-    of_segments(
-        b"both watermarks",
-        segments,
-        views,
-        runs,
-        borrows,
-        ids,
-        pool,
-        80,
-        1,
-    );
-    of_borrows(
-        b"a final checkpoint of code 2",
-        segments,
-        views,
-        runs,
-        borrows,
-        ids,
-        pool,
-        38,
-        1,
-    );
-    of_borrows(
-        b"a final checkpoint",
-        segments,
-        views,
-        runs,
-        borrows,
-        ids,
-        pool,
-        39,
-        1,
-    );
-    of_runs(
-        b"the greatest run id of 32 bits",
-        segments,
-        views,
-        runs,
-        borrows,
-        ids,
-        pool,
-        129,
-        1,
-    );
-    of_runs(
-        b"a run id of 33 bits",
-        segments,
-        views,
-        runs,
-        borrows,
-        ids,
-        pool,
-        130,
-        1,
-    );
+fn show_codes(t: &[u64]) {
+    of_l0(b"a last key of code 2", t, 652, 1);
+    of_l0(b"a visible range of code 2", t, 653, 1);
+    of_l0(b"a start of code 3", t, 654, 1);
+    of_l0(b"an end of code 3", t, 655, 1);
+    of_segments(b"a view watermark of code 2", t, 78, 1);
+    of_segments(b"an SST watermark of code 2", t, 79, 1);
+    of_segments(b"both watermarks", t, 80, 1);
+    of_borrows(b"a final checkpoint of code 2", t, 38, 1);
+    of_borrows(b"a final checkpoint", t, 39, 1);
+    of_runs(b"the greatest run id of 32 bits", t, 129, 1);
+    of_runs(b"a run id of 33 bits", t, 130, 1);
 }
 
 // L2 and L3.
-fn show_prefixes(
-    segments: &[u64],
-    views: &[u64],
-    runs: &[u64],
-    borrows: &[u64],
-    ids: &[u64],
-    pool: &[u8],
-) {
-    of_segments(b"a and b", segments, views, runs, borrows, ids, pool, 72, 2);
-    of_segments(b"a twice", segments, views, runs, borrows, ids, pool, 68, 2);
-    of_segments(b"b and a", segments, views, runs, borrows, ids, pool, 71, 2);
-    of_segments(
-        b"a and ab",
-        segments,
-        views,
-        runs,
-        borrows,
-        ids,
-        pool,
-        69,
-        2,
-    );
-    of_segments(
-        b"a, b and bc",
-        segments,
-        views,
-        runs,
-        borrows,
-        ids,
-        pool,
-        72,
-        3,
-    );
-    of_segments(
-        b"the empty prefix alone",
-        segments,
-        views,
-        runs,
-        borrows,
-        ids,
-        pool,
-        67,
-        1,
-    );
-    of_segments(
-        b"the empty prefix and a",
-        segments,
-        views,
-        runs,
-        borrows,
-        ids,
-        pool,
-        67,
-        2,
-    );
+fn show_prefixes(t: &[u64]) {
+    of_segments(b"a and b", t, 72, 2);
+    of_segments(b"a twice", t, 68, 2);
+    of_segments(b"b and a", t, 71, 2);
+    of_segments(b"a and ab", t, 69, 2);
+    of_segments(b"a, b and bc", t, 72, 3);
+    of_segments(b"the empty prefix alone", t, 67, 1);
+    of_segments(b"the empty prefix and a", t, 67, 2);
 }
 
 // L4.
-fn show_views(
-    segments: &[u64],
-    views: &[u64],
-    runs: &[u64],
-    borrows: &[u64],
-    ids: &[u64],
-    pool: &[u8],
-) {
-    of_l0(
-        b"first key above last key",
-        segments,
-        views,
-        runs,
-        borrows,
-        ids,
-        pool,
-        657,
-        1,
-    );
-    of_l0(
-        b"first key equal to last key",
-        segments,
-        views,
-        runs,
-        borrows,
-        ids,
-        pool,
-        658,
-        1,
-    );
-    of_l0(
-        b"visible above the last key",
-        segments,
-        views,
-        runs,
-        borrows,
-        ids,
-        pool,
-        659,
-        1,
-    );
-    of_l0(
-        b"visible from the last key on",
-        segments,
-        views,
-        runs,
-        borrows,
-        ids,
-        pool,
-        660,
-        1,
-    );
-    of_l0(
-        b"visible above the last key alone",
-        segments,
-        views,
-        runs,
-        borrows,
-        ids,
-        pool,
-        661,
-        1,
-    );
-    of_l0(
-        b"visible below the first key",
-        segments,
-        views,
-        runs,
-        borrows,
-        ids,
-        pool,
-        662,
-        1,
-    );
-    of_l0(
-        b"visible up to the first key",
-        segments,
-        views,
-        runs,
-        borrows,
-        ids,
-        pool,
-        663,
-        1,
-    );
+fn show_views(t: &[u64]) {
+    of_l0(b"first key above last key", t, 657, 1);
+    of_l0(b"first key equal to last key", t, 658, 1);
+    of_l0(b"visible above the last key", t, 659, 1);
+    of_l0(b"visible from the last key on", t, 660, 1);
+    of_l0(b"visible above the last key alone", t, 661, 1);
+    of_l0(b"visible below the first key", t, 662, 1);
+    of_l0(b"visible up to the first key", t, 663, 1);
 }
 
 // L4: the visible range, and where a view may stand.
-fn show_ranges(
-    segments: &[u64],
-    views: &[u64],
-    runs: &[u64],
-    borrows: &[u64],
-    ids: &[u64],
-    pool: &[u8],
-) {
-    of_l0(
-        b"an empty visible range",
-        segments,
-        views,
-        runs,
-        borrows,
-        ids,
-        pool,
-        664,
-        1,
-    );
-    of_l0(
-        b"visible between a and a",
-        segments,
-        views,
-        runs,
-        borrows,
-        ids,
-        pool,
-        665,
-        1,
-    );
-    of_l0(
-        b"visible around the first key",
-        segments,
-        views,
-        runs,
-        borrows,
-        ids,
-        pool,
-        666,
-        1,
-    );
-    of_l0(
-        b"visible between a key and the next",
-        segments,
-        views,
-        runs,
-        borrows,
-        ids,
-        pool,
-        677,
-        1,
-    );
-    of_runs(
-        b"such a view in a run",
-        segments,
-        views,
-        runs,
-        borrows,
-        ids,
-        pool,
-        141,
-        1,
-    );
-    of_segments(
-        b"such a view in a segment",
-        segments,
-        views,
-        runs,
-        borrows,
-        ids,
-        pool,
-        81,
-        1,
-    );
+fn show_ranges(t: &[u64]) {
+    of_l0(b"an empty visible range", t, 664, 1);
+    of_l0(b"visible between a and a", t, 665, 1);
+    of_l0(b"visible around the first key", t, 666, 1);
+    of_l0(b"visible between a key and the next", t, 677, 1);
+    of_runs(b"such a view in a run", t, 141, 1);
+    of_segments(b"such a view in a segment", t, 81, 1);
 }
 
 // L5.
-fn show_runs(
-    segments: &[u64],
-    views: &[u64],
-    runs: &[u64],
-    borrows: &[u64],
-    ids: &[u64],
-    pool: &[u8],
-) {
-    of_runs(
-        b"a run without a view",
-        segments,
-        views,
-        runs,
-        borrows,
-        ids,
-        pool,
-        132,
-        1,
-    );
-    of_segments(
-        b"such a run in a segment",
-        segments,
-        views,
-        runs,
-        borrows,
-        ids,
-        pool,
-        82,
-        1,
-    );
-    of_runs(
-        b"first keys the same",
-        segments,
-        views,
-        runs,
-        borrows,
-        ids,
-        pool,
-        133,
-        1,
-    );
-    of_runs(
-        b"first keys ascend, last key unknown",
-        segments,
-        views,
-        runs,
-        borrows,
-        ids,
-        pool,
-        134,
-        1,
-    );
-    of_runs(
-        b"last key equal to the next first key",
-        segments,
-        views,
-        runs,
-        borrows,
-        ids,
-        pool,
-        135,
-        1,
-    );
-    of_runs(
-        b"last key below the next first key",
-        segments,
-        views,
-        runs,
-        borrows,
-        ids,
-        pool,
-        136,
-        1,
-    );
-    of_runs(
-        b"last key above the next first key",
-        segments,
-        views,
-        runs,
-        borrows,
-        ids,
-        pool,
-        137,
-        1,
-    );
-    of_runs(
-        b"first keys descend",
-        segments,
-        views,
-        runs,
-        borrows,
-        ids,
-        pool,
-        138,
-        1,
-    );
-    of_runs(
-        b"runs that touch",
-        segments,
-        views,
-        runs,
-        borrows,
-        ids,
-        pool,
-        139,
-        2,
-    );
-    of_l0(
-        b"L0 views that overlap",
-        segments,
-        views,
-        runs,
-        borrows,
-        ids,
-        pool,
-        673,
-        2,
-    );
+fn show_runs(t: &[u64]) {
+    of_runs(b"a run without a view", t, 132, 1);
+    of_segments(b"such a run in a segment", t, 82, 1);
+    of_runs(b"first keys the same", t, 133, 1);
+    of_runs(b"first keys ascend, last key unknown", t, 134, 1);
+    of_runs(b"last key equal to the next first key", t, 135, 1);
+    of_runs(b"last key below the next first key", t, 136, 1);
+    of_runs(b"last key above the next first key", t, 137, 1);
+    of_runs(b"first keys descend", t, 138, 1);
+    of_runs(b"runs that touch", t, 139, 2);
+    of_l0(b"L0 views that overlap", t, 673, 2);
 }
 
 // The first broken rule.
-fn show_order(
-    segments: &[u64],
-    views: &[u64],
-    runs: &[u64],
-    borrows: &[u64],
-    ids: &[u64],
-    pool: &[u8],
-) {
-    of_all(
-        b"L4 and L5",
-        segments,
-        views,
-        runs,
-        borrows,
-        ids,
-        pool,
-        rows(657, 1),
-        rows(132, 1),
-        rows(0, 0),
-        0,
-    );
-    of_all(
-        b"L3 and L4",
-        segments,
-        views,
-        runs,
-        borrows,
-        ids,
-        pool,
-        rows(657, 1),
-        rows(0, 0),
-        rows(69, 2),
-        0,
-    );
-    of_all(
-        b"L2 and L5",
-        segments,
-        views,
-        runs,
-        borrows,
-        ids,
-        pool,
-        rows(0, 0),
-        rows(132, 1),
-        rows(71, 2),
-        0,
-    );
-    of_all(
-        b"L1 and L2",
-        segments,
-        views,
-        runs,
-        borrows,
-        ids,
-        pool,
-        rows(0, 0),
-        rows(0, 0),
-        rows(71, 2),
-        33,
-    );
+fn show_order(t: &[u64]) {
+    of_all(b"L4 and L5", t, rows(657, 1), rows(132, 1), rows(0, 0), 0);
+    of_all(b"L3 and L4", t, rows(657, 1), rows(0, 0), rows(69, 2), 0);
+    of_all(b"L2 and L5", t, rows(0, 0), rows(132, 1), rows(71, 2), 0);
+    of_all(b"L1 and L2", t, rows(0, 0), rows(0, 0), rows(71, 2), 33);
 }
 
 // ---- the tables
 
-// Puts a word into a column of a row.
-fn word(t: &mut [u64], width: usize, row: usize, col: usize, x: u64) {
-    if row < 1024 {
-        if width < 64 {
-            if col < 64 {
-                let i = row * width + col;
-                if i < t.len() {
-                    t[i] = x;
-                }
-            }
+fn word(t: &mut [u64], i: usize, x: u64) {
+    if i < t.len() {
+        t[i] = x;
+    }
+}
+
+fn segment_word(t: &mut [u64], row: usize, col: usize, x: u64) {
+    if row < 100 {
+        if col < 12 {
+            word(t, row * 12 + col, x);
         }
     }
 }
 
-// Puts a word into a column of each row from `from` on, before `past`.
-fn column(t: &mut [u64], width: usize, from: usize, past: usize, col: usize, x: u64) {
+fn view_word(t: &mut [u64], row: usize, col: usize, x: u64) {
+    if row < 680 {
+        if col < 16 {
+            word(t, 1200 + row * 16 + col, x);
+        }
+    }
+}
+
+fn run_word(t: &mut [u64], row: usize, col: usize, x: u64) {
+    if row < 150 {
+        if col < 3 {
+            word(t, 12080 + row * 3 + col, x);
+        }
+    }
+}
+
+fn borrow_word(t: &mut [u64], row: usize, col: usize, x: u64) {
+    if row < 45 {
+        if col < 9 {
+            word(t, 12530 + row * 9 + col, x);
+        }
+    }
+}
+
+// Puts a word into a column of each view from `from` on, before `past`.
+fn view_column(t: &mut [u64], from: usize, past: usize, col: usize, x: u64) {
     let mut row = from;
     while row < past {
-        word(t, width, row, col, x);
+        view_word(t, row, col, x);
         row += 1;
     }
 }
 
-// Puts each row's number into a column.
-fn numbers(t: &mut [u64], width: usize, past: usize, col: usize) {
+// How many views each run from `from` on, before `past`, has.
+fn run_counts(t: &mut [u64], from: usize, past: usize, x: u64) {
+    let mut row = from;
+    while row < past {
+        run_word(t, row, 2, x);
+        row += 1;
+    }
+}
+
+// The prefix of each row before `past` is the byte of its number.
+fn byte_prefixes(t: &mut [u64], past: usize) {
     let mut row = 0;
     while row < past {
-        word(t, width, row, col, row as u64);
+        prefix(t, row, row as u64, 1);
         row += 1;
     }
 }
 
-// Puts two words from a column on: a place, or a window.
-fn pair(t: &mut [u64], width: usize, row: usize, col: usize, x: u64, y: u64) {
-    if col < 64 {
-        word(t, width, row, col, x);
-        word(t, width, row, col + 1, y);
+fn prefix(t: &mut [u64], row: usize, at: u64, len: u64) {
+    segment_word(t, row, 0, at);
+    segment_word(t, row, 1, len);
+}
+
+// A segment's views, or from column 10 on its runs.
+fn window(t: &mut [u64], row: usize, col: usize, first: u64, count: u64) {
+    if col < 12 {
+        segment_word(t, row, col, first);
+        segment_word(t, row, col + 1, count);
     }
 }
 
-fn prefix(segments: &mut [u64], row: usize, at: u64, len: u64) {
-    pair(segments, 12, row, 0, at, len);
+fn first(t: &mut [u64], row: usize, at: u64, len: u64) {
+    view_word(t, row, 4, at);
+    view_word(t, row, 5, len);
 }
 
-fn first(views: &mut [u64], row: usize, at: u64, len: u64) {
-    pair(views, 16, row, 4, at, len);
+fn last(t: &mut [u64], row: usize, code: u64, at: u64, len: u64) {
+    view_word(t, row, 6, code);
+    view_word(t, row, 7, at);
+    view_word(t, row, 8, len);
 }
 
-fn last(views: &mut [u64], row: usize, code: u64, at: u64, len: u64) {
-    word(views, 16, row, 6, code);
-    pair(views, 16, row, 7, at, len);
+fn start(t: &mut [u64], row: usize, code: u64, at: u64, len: u64) {
+    view_word(t, row, 9, 1);
+    view_word(t, row, 10, code);
+    view_word(t, row, 11, at);
+    view_word(t, row, 12, len);
 }
 
-fn start(views: &mut [u64], row: usize, code: u64, at: u64, len: u64) {
-    word(views, 16, row, 9, 1);
-    word(views, 16, row, 10, code);
-    pair(views, 16, row, 11, at, len);
+fn end(t: &mut [u64], row: usize, code: u64, at: u64, len: u64) {
+    view_word(t, row, 9, 1);
+    view_word(t, row, 13, code);
+    view_word(t, row, 14, at);
+    view_word(t, row, 15, len);
 }
 
-fn end(views: &mut [u64], row: usize, code: u64, at: u64, len: u64) {
-    word(views, 16, row, 9, 1);
-    word(views, 16, row, 13, code);
-    pair(views, 16, row, 14, at, len);
-}
-
-fn run(runs: &mut [u64], row: usize, from: u64, count: u64) {
-    pair(runs, 3, row, 1, from, count);
+fn run(t: &mut [u64], row: usize, from: u64, count: u64) {
+    run_word(t, row, 1, from);
+    run_word(t, row, 2, count);
 }
 
 // Each of the first 65 has a prefix of one byte.
-fn set_segments(segments: &mut [u64]) {
-    numbers(segments, 12, 65, 0);
-    column(segments, 12, 0, 65, 1, 1);
-    prefix(segments, 65, 0, 32);
-    prefix(segments, 66, 0, 33);
-    prefix(segments, 75, 96, 1);
-    prefix(segments, 76, 96, 0);
+fn set_segments(t: &mut [u64]) {
+    byte_prefixes(t, 65);
+    prefix(t, 65, 0, 32);
+    prefix(t, 66, 0, 33);
+    prefix(t, 75, 96, 1);
+    prefix(t, 76, 96, 0);
 }
 
 // Prefixes a, a, ab, b, a, b, bc after the empty one.
-fn set_prefixes(segments: &mut [u64]) {
-    prefix(segments, 68, 64, 1);
-    prefix(segments, 69, 64, 1);
-    prefix(segments, 70, 64, 2);
-    prefix(segments, 71, 65, 1);
-    prefix(segments, 72, 64, 1);
-    prefix(segments, 73, 65, 1);
-    prefix(segments, 74, 65, 2);
+fn set_prefixes(t: &mut [u64]) {
+    prefix(t, 68, 64, 1);
+    prefix(t, 69, 64, 1);
+    prefix(t, 70, 64, 2);
+    prefix(t, 71, 65, 1);
+    prefix(t, 72, 64, 1);
+    prefix(t, 73, 65, 1);
+    prefix(t, 74, 65, 2);
 }
 
 // Watermarks.
-fn set_marks(segments: &mut [u64]) {
-    word(segments, 12, 78, 2, 2);
-    word(segments, 12, 79, 5, 2);
-    word(segments, 12, 80, 2, 1);
-    word(segments, 12, 80, 5, 1);
+fn set_marks(t: &mut [u64]) {
+    segment_word(t, 78, 2, 2);
+    segment_word(t, 79, 5, 2);
+    segment_word(t, 80, 2, 1);
+    segment_word(t, 80, 5, 1);
 }
 
 // Windows of views and of runs.
-fn set_trees(segments: &mut [u64]) {
-    pair(segments, 12, 81, 8, 657, 1);
-    pair(segments, 12, 82, 10, 132, 1);
-    pair(segments, 12, 83, 8, 680, 1);
-    pair(segments, 12, 84, 10, 150, 1);
+fn set_trees(t: &mut [u64]) {
+    window(t, 81, 8, 657, 1);
+    window(t, 82, 10, 132, 1);
+    window(t, 83, 8, 680, 1);
+    window(t, 84, 10, 150, 1);
 }
 
 // Two windows of 256 views each, and one of one.
-fn set_many(segments: &mut [u64]) {
-    prefix(segments, 85, 64, 1);
-    prefix(segments, 86, 65, 1);
-    prefix(segments, 87, 66, 1);
-    word(segments, 12, 85, 9, 256);
-    word(segments, 12, 86, 9, 256);
-    word(segments, 12, 87, 9, 1);
+fn set_many(t: &mut [u64]) {
+    prefix(t, 85, 64, 1);
+    prefix(t, 86, 65, 1);
+    prefix(t, 87, 66, 1);
+    segment_word(t, 85, 9, 256);
+    segment_word(t, 86, 9, 256);
+    segment_word(t, 87, 9, 1);
 }
 
 // Long keys. Of the first 513 views all words are 0: the empty first key, all else absent.
-fn set_keys(views: &mut [u64]) {
-    column(views, 16, 513, 641, 5, 64);
-    first(views, 641, 0, 65);
-    last(views, 642, 1, 0, 64);
-    last(views, 643, 1, 0, 65);
+fn set_keys(t: &mut [u64]) {
+    view_column(t, 513, 641, 5, 64);
+    first(t, 641, 0, 65);
+    last(t, 642, 1, 0, 64);
+    last(t, 643, 1, 0, 65);
 }
 
 // Long bounds.
-fn set_bounds(views: &mut [u64]) {
-    start(views, 644, 1, 0, 64);
-    start(views, 645, 1, 0, 65);
-    end(views, 646, 1, 0, 64);
-    end(views, 647, 1, 0, 65);
+fn set_bounds(t: &mut [u64]) {
+    start(t, 644, 1, 0, 64);
+    start(t, 645, 1, 0, 65);
+    end(t, 646, 1, 0, 64);
+    end(t, 647, 1, 0, 65);
 }
 
 // Places outside the pool, the last behind the code of an unknown key.
-fn set_outside(views: &mut [u64]) {
-    first(views, 648, 96, 1);
-    last(views, 649, 1, 96, 1);
-    start(views, 650, 1, 96, 1);
-    end(views, 651, 2, 95, 2);
-    last(views, 656, 0, 96, 1);
+fn set_outside(t: &mut [u64]) {
+    first(t, 648, 96, 1);
+    last(t, 649, 1, 96, 1);
+    start(t, 650, 1, 96, 1);
+    end(t, 651, 2, 95, 2);
+    last(t, 656, 0, 96, 1);
 }
 
 // Codes that stand for nothing.
-fn set_codes(views: &mut [u64]) {
-    last(views, 652, 2, 0, 1);
-    word(views, 16, 653, 9, 2);
-    start(views, 654, 3, 0, 1);
-    end(views, 655, 3, 0, 1);
+fn set_codes(t: &mut [u64]) {
+    last(t, 652, 2, 0, 1);
+    view_word(t, 653, 9, 2);
+    start(t, 654, 3, 0, 1);
+    end(t, 655, 3, 0, 1);
 }
 
 // First and last keys.
-fn set_ends(views: &mut [u64]) {
-    column(views, 16, 657, 680, 4, 64);
-    column(views, 16, 657, 680, 5, 1);
-    first(views, 657, 65, 1);
-    last(views, 657, 1, 64, 1);
-    last(views, 658, 1, 64, 1);
+fn set_ends(t: &mut [u64]) {
+    view_column(t, 657, 680, 4, 64);
+    view_column(t, 657, 680, 5, 1);
+    first(t, 657, 65, 1);
+    last(t, 657, 1, 64, 1);
+    last(t, 658, 1, 64, 1);
 }
 
 // The last key b.
-fn set_last(views: &mut [u64]) {
-    column(views, 16, 659, 664, 6, 1);
-    column(views, 16, 659, 664, 7, 65);
-    column(views, 16, 659, 664, 8, 1);
+fn set_last(t: &mut [u64]) {
+    view_column(t, 659, 664, 6, 1);
+    view_column(t, 659, 664, 7, 65);
+    view_column(t, 659, 664, 8, 1);
 }
 
 // Visible ranges.
-fn set_visible(views: &mut [u64]) {
-    start(views, 659, 1, 66, 1);
-    start(views, 660, 1, 65, 1);
-    start(views, 661, 2, 65, 1);
-    end(views, 662, 2, 64, 1);
-    end(views, 663, 1, 64, 1);
-    start(views, 665, 2, 64, 1);
-    end(views, 665, 2, 64, 1);
+fn set_visible(t: &mut [u64]) {
+    start(t, 659, 1, 66, 1);
+    start(t, 660, 1, 65, 1);
+    start(t, 661, 2, 65, 1);
+    end(t, 662, 2, 64, 1);
+    end(t, 663, 1, 64, 1);
+    start(t, 665, 2, 64, 1);
+    end(t, 665, 2, 64, 1);
 }
 
 // More of them.
-fn set_around(views: &mut [u64]) {
-    start(views, 664, 1, 66, 1);
-    end(views, 664, 1, 65, 1);
-    first(views, 666, 65, 1);
-    start(views, 666, 1, 64, 1);
-    end(views, 666, 1, 66, 1);
-    start(views, 677, 2, 94, 1);
-    end(views, 677, 2, 94, 2);
+fn set_around(t: &mut [u64]) {
+    start(t, 664, 1, 66, 1);
+    end(t, 664, 1, 65, 1);
+    first(t, 666, 65, 1);
+    start(t, 666, 1, 64, 1);
+    end(t, 666, 1, 66, 1);
+    start(t, 677, 2, 94, 1);
+    end(t, 677, 2, 94, 2);
 }
 
 // The views of runs.
-fn set_follow(views: &mut [u64]) {
-    column(views, 16, 669, 676, 4, 65);
-    last(views, 669, 1, 66, 1);
-    first(views, 670, 66, 1);
-    last(views, 671, 1, 66, 1);
-    first(views, 672, 67, 1);
-    last(views, 673, 1, 67, 1);
-    first(views, 674, 66, 1);
+fn set_follow(t: &mut [u64]) {
+    view_column(t, 669, 676, 4, 65);
+    last(t, 669, 1, 66, 1);
+    first(t, 670, 66, 1);
+    last(t, 671, 1, 66, 1);
+    first(t, 672, 67, 1);
+    last(t, 673, 1, 67, 1);
+    first(t, 674, 66, 1);
 }
 
 // Each of the first 129 has the first view alone.
-fn set_runs(runs: &mut [u64]) {
-    column(runs, 3, 0, 142, 2, 1);
-    word(runs, 3, 129, 0, 0xffffffff);
-    word(runs, 3, 130, 0, 0x100000000);
-    word(runs, 3, 131, 1, 680);
-    word(runs, 3, 132, 2, 0);
+fn set_runs(t: &mut [u64]) {
+    run_counts(t, 0, 142, 1);
+    run_word(t, 129, 0, 0xffffffff);
+    run_word(t, 130, 0, 0x100000000);
+    run_word(t, 131, 1, 680);
+    run_word(t, 132, 2, 0);
 }
 
 // The others.
-fn set_more_runs(runs: &mut [u64]) {
-    column(runs, 3, 133, 139, 2, 2);
-    word(runs, 3, 133, 1, 667);
-    word(runs, 3, 134, 1, 668);
-    word(runs, 3, 135, 1, 669);
+fn set_more_runs(t: &mut [u64]) {
+    run_counts(t, 133, 139, 2);
+    run_word(t, 133, 1, 667);
+    run_word(t, 134, 1, 668);
+    run_word(t, 135, 1, 669);
 }
 
 // And those of one view.
-fn set_last_runs(runs: &mut [u64]) {
-    run(runs, 136, 671, 2);
-    run(runs, 137, 673, 2);
-    run(runs, 138, 675, 2);
-    run(runs, 139, 669, 1);
-    run(runs, 140, 670, 1);
-    run(runs, 141, 657, 1);
+fn set_last_runs(t: &mut [u64]) {
+    run(t, 136, 671, 2);
+    run(t, 137, 673, 2);
+    run(t, 138, 675, 2);
+    run(t, 139, 669, 1);
+    run(t, 140, 670, 1);
+    run(t, 141, 657, 1);
 }
 
 // Of the first 33 all words are 0.
-fn set_borrows(borrows: &mut [u64]) {
-    word(borrows, 9, 33, 8, 512);
-    word(borrows, 9, 34, 8, 513);
-    word(borrows, 9, 35, 1, 64);
-    word(borrows, 9, 36, 1, 65);
-    pair(borrows, 9, 37, 0, 96, 1);
+fn set_borrows(t: &mut [u64]) {
+    borrow_word(t, 33, 8, 512);
+    borrow_word(t, 34, 8, 513);
+    borrow_word(t, 35, 1, 64);
+    borrow_word(t, 36, 1, 65);
+    borrow_word(t, 37, 0, 96);
+    borrow_word(t, 37, 1, 1);
 }
 
 // Final checkpoints, and an id outside.
-fn set_checkpoints(borrows: &mut [u64]) {
-    word(borrows, 9, 38, 4, 2);
-    word(borrows, 9, 39, 4, 1);
-    pair(borrows, 9, 40, 7, 513, 1);
+fn set_checkpoints(t: &mut [u64]) {
+    borrow_word(t, 38, 4, 2);
+    borrow_word(t, 39, 4, 1);
+    borrow_word(t, 40, 7, 513);
+    borrow_word(t, 40, 8, 1);
 }
 
-fn make_segments(segments: &mut [u64]) {
-    set_segments(segments);
-    set_prefixes(segments);
-    set_marks(segments);
-    set_trees(segments);
-    set_many(segments);
+fn make_segments(t: &mut [u64]) {
+    set_segments(t);
+    set_prefixes(t);
+    set_marks(t);
+    set_trees(t);
+    set_many(t);
 }
 
-fn make_views(views: &mut [u64]) {
-    set_keys(views);
-    set_bounds(views);
-    set_outside(views);
-    set_codes(views);
+fn make_views(t: &mut [u64]) {
+    set_keys(t);
+    set_bounds(t);
+    set_outside(t);
+    set_codes(t);
 }
 
-fn make_view_ranges(views: &mut [u64]) {
-    set_ends(views);
-    set_last(views);
-    set_visible(views);
-    set_around(views);
-    set_follow(views);
+fn make_view_ranges(t: &mut [u64]) {
+    set_ends(t);
+    set_last(t);
+    set_visible(t);
+    set_around(t);
+    set_follow(t);
 }
 
-fn make_runs(runs: &mut [u64]) {
-    set_runs(runs);
-    set_more_runs(runs);
-    set_last_runs(runs);
+fn make_runs(t: &mut [u64]) {
+    set_runs(t);
+    set_more_runs(t);
+    set_last_runs(t);
 }
 
-fn make_borrows(borrows: &mut [u64]) {
-    set_borrows(borrows);
-    set_checkpoints(borrows);
+fn make_borrows(t: &mut [u64]) {
+    set_borrows(t);
+    set_checkpoints(t);
 }
 
-fn show_all(
-    segments: &[u64],
-    views: &[u64],
-    runs: &[u64],
-    borrows: &[u64],
-    ids: &[u64],
-    pool: &[u8],
-) {
-    show_counts(segments, views, runs, borrows, ids, pool);
-    show_borrows(segments, views, runs, borrows, ids, pool);
-    show_lengths(segments, views, runs, borrows, ids, pool);
-    show_names(segments, views, runs, borrows, ids, pool);
-    show_outside(segments, views, runs, borrows, ids, pool);
-    show_places(segments, views, runs, borrows, ids, pool);
-    show_codes(segments, views, runs, borrows, ids, pool);
-    show_prefixes(segments, views, runs, borrows, ids, pool);
-    show_views(segments, views, runs, borrows, ids, pool);
-    show_ranges(segments, views, runs, borrows, ids, pool);
-    show_runs(segments, views, runs, borrows, ids, pool);
-    show_order(segments, views, runs, borrows, ids, pool);
+fn show_all(t: &[u64]) {
+    show_counts(t);
+    show_borrows(t);
+    show_lengths(t);
+    show_names(t);
+    show_outside(t);
+    show_places(t);
+    show_codes(t);
+    show_prefixes(t);
+    show_views(t);
+    show_ranges(t);
+    show_runs(t);
+    show_order(t);
 }
 
 fn main() {
-    let mut segments = [0u64; 1200];
-    let mut views = [0u64; 10880];
-    let mut runs = [0u64; 450];
-    let mut borrows = [0u64; 405];
-    let ids = [0u64; 1026];
-    let pool =
-        b"!\"#$%&'()*+,-./0123456789:;<=>?@ABCDEFGHIJKLMNOPQRSTUVWXYZ[\\]^_`abcdefghijklmnopqrstuvwxyz{|}~a\0";
-    make_segments(&mut segments);
-    make_views(&mut views);
-    make_view_ranges(&mut views);
-    make_runs(&mut runs);
-    make_borrows(&mut borrows);
-    show_all(&segments, &views, &runs, &borrows, &ids, pool);
+    let mut t = [0u64; 13961];
+    make_segments(&mut t);
+    make_views(&mut t);
+    make_view_ranges(&mut t);
+    make_runs(&mut t);
+    make_borrows(&mut t);
+    show_all(&t);
 }

@@ -1,0 +1,6 @@
+pub mod Answers
+pub mod Corners
+pub mod Demand3
+pub mod Fronts
+pub mod Nests
+pub mod Places
