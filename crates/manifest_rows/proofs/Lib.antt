@@ -1,0 +1,11 @@
+pub mod Backs
+pub mod Borrows
+pub mod Goes
+pub mod Kept
+pub mod Manifests
+pub mod Overs
+pub mod Runs
+pub mod Totals
+pub mod Trees
+pub mod Turns
+pub mod Views

@@ -1,0 +1,101 @@
+-- Trees and segments filled in. Assumes nothing.
+use Prim.Native.Nat.{ℕ, suc, _+_, _≤_, _<_}
+use mathlib.Core.Path.{_≡_, refl, sym, ap, _∙_}
+use mathlib.Core.List.{List}
+use native.Mathlib.Omega.{arith}
+use lib.ListN.{length}
+use Rattle.ids.specs.declared.ViewMark.{ViewMark}
+use Rattle.ids.specs.declared.SstMark.{SstMark}
+use Rattle.records.specs.Model.{Tree, Segment}
+use Rattle.records.specs.Decode.{bytesIn}
+use Rattle.records.specs.Words.{treeWords, segmentWords}
+use Rattle.records.specs.declared.Place.{Place}
+use Rattle.records.specs.declared.TreeRow.{TreeRow}
+use Rattle.msgpack.specs.Skip.{restAt}
+use Rattle.msgpack.specs.Read.{groupAt, listAt}
+use Rattle.msgpack.specs.declared.Skipped.the-variants.{Past, Bad}
+use Rattle.msgpack.specs.declared.Group.the-variants as group
+use Rattle.msgpack.proofs.Told.{group-within}
+use Rattle.manifest_values.specs.Read.{Got, is, wrong, many, keyAt, viewAt, runAt, viewMarkAt, sstMarkAt, treeAt, segmentAt, treesAt}
+use Rattle.manifest_rows.specs.declared.Cursor.{Cursor}
+use Rattle.manifest_rows.specs.Stored.{Laid, FilledIs, Steps, table, Under, ViewStep, two, UnderTwo, RunStep, PlaceIn, TreeStep, three, UnderThree, SegmentStep, TreesStep, start}
+use Rattle.manifest_rows.proofs.Goes.{goes, goes-view-mark, goes-sst-mark, goes-key, goes-segment, goes-many, goes-view, rest-past}
+use Rattle.manifest_rows.proofs.Turns.{many-length}
+
+module _
+    (s : List ℕ) (at n p₀ : ℕ) (x : ViewMark) (p₁ : ℕ) (y : SstMark) (p₂ k p₃ : ℕ)
+    (e₀ : groupAt s at 4 ≡ group.Of n p₀) (e₁ : viewMarkAt s p₀ ≡ is x p₁) (e₂ : sstMarkAt s p₁ ≡ is y p₂) (e₃ : listAt s p₂ ≡ group.Of k p₃)
+  where
+    pub tree-under : (v : ℕ) → v ≤ at → v ≤ p₃
+    tree-under v h =
+        let a = group-within s at 4 n p₀ e₀ in
+        let b = goes 1 p₀ (viewMarkAt s p₀) x p₁ (goes-view-mark s p₀) e₁ in
+        let c = goes 1 p₁ (sstMarkAt s p₁) y p₂ (goes-sst-mark s p₁) e₂ in
+        let d = group-within s p₂ 0 k p₃ e₃ in
+        omega arith
+
+    module _ (p₄ : ℕ) (views views′ : List ℕ) (v : ℕ) (f : FilledIs (Steps (ViewStep s)) Under (many (viewAt s) k p₃) (table views v) (table views′ (v + k)) p₄) (m p₅ : ℕ) (e₄ : listAt s p₄ ≡ group.Of m p₅) where
+      -- both cursors, where the runs start
+      pub tree-both : (i : ℕ) → (i ≤ at) × (v ≤ at) → (i ≤ p₅) × (v + k ≤ p₅)
+      tree-both i h =
+          let a = tree-under i (h .0) in
+          let b = group-within s p₄ 0 m p₅ e₄ in
+          let c = goes 0 p₃ (many (viewAt s) k p₃) (f .value) p₄ (goes-many (viewAt s) (goes-view s) k p₃) (f .read) in
+          (omega arith, omega (arith, f .under))
+
+      module _
+          (p₆ : ℕ) (runs runs′ views″ : List ℕ) (i : ℕ) (d : Cursor)
+          (g : FilledIs (Steps (RunStep s)) UnderTwo (many (runAt s) m p₅) (two runs views′ (record { outer = i; inner = v + k })) (two runs′ views″ d) p₆) (e : ℕ) (e₅ : restAt s p₆ n 4 ≡ Past e)
+        where
+          pub tree-filled : FilledIs (TreeStep s (record { view = x; sst = y; l0 = record { first = v; count = k }; compacted = record { first = i; count = m } })) UnderTwo (treeAt s at) (two runs views (record { outer = i; inner = v })) (two runs′ views″ d) e
+          unfolding treeAt
+          tree-filled =
+              let a : length (f .value) ≡ k = many-length (viewAt s) k p₃ (f .value) p₄ (f .read) in
+              let b : length (g .value) ≡ m = many-length (runAt s) m p₅ (g .value) p₆ (g .read) in
+              let c : p₆ ≤ e = rest-past s p₆ n 4 e e₅ in
+              record {
+                value = record { viewMark = x; sstMark = y; l0 = f .value; runs = g .value };
+                read = rw (e₀, e₁, e₂, e₃, f .read, e₄, g .read, e₅);
+                step = record { between = table views′ (v + k); l0 = f .step; runs = g .step; is = rw (a, b) };
+                under = (omega (arith, g .under .0), omega (arith, g .under .1));
+              }
+
+module _ (s : List ℕ) (at n p₀ : ℕ) (prefix : Place) (p₁ : ℕ) (e₀ : groupAt s at 2 ≡ group.Of n p₀) (e₁ : keyAt s p₀ ≡ is (bytesIn s prefix) p₁) where
+  pub segment-under : (c : Cursor) → (c .outer ≤ at) × (c .inner ≤ at) → (c .outer ≤ p₁) × (c .inner ≤ p₁)
+  segment-under c h =
+      let a = group-within s at 2 n p₀ e₀ in
+      let b = goes 1 p₀ (keyAt s p₀) _ p₁ (goes-key s p₀) e₁ in
+      omega arith
+
+  pub segment-filled : (row : TreeRow) (p₂ : ℕ) (runs views runs′ views′ : List ℕ) (c d : Cursor) → FilledIs (TreeStep s row) UnderTwo (treeAt s p₁) (two runs views c) (two runs′ views′ d) p₂ → (e : ℕ) → restAt s p₂ n 2 ≡ Past e
+      → (i : ℕ) (segments segments′ w : List ℕ) → i ≤ at → PlaceIn (length s) prefix → w ≡ segmentWords (record { prefix = prefix; tree = row }) → Laid w i segments segments′
+      → FilledIs (SegmentStep s) UnderThree (segmentAt s at) (three segments i runs views c) (three segments′ (i + 1) runs′ views′ d) e
+  unfolding segmentAt segmentWords treeWords
+  segment-filled row p₂ runs views runs′ views′ c d t e e₂ i segments segments′ w h inside ew l =
+      let l′ : Laid (segmentWords (record { prefix = prefix; tree = row })) i segments segments′ = rw ew at l in
+      let r : segmentAt s at ≡ is (record { prefix = bytesIn s prefix; tree = t .value }) e = rw (e₀, e₁, t .read, e₂) in
+      let a : p₂ ≤ e = rest-past s p₂ n 2 e e₂ in
+      let b : at + 1 ≤ e = goes 1 at (segmentAt s at) _ e (goes-segment s at) r in
+      record {
+        value = record { prefix = bytesIn s prefix; tree = t .value };
+        read = r;
+        step = record { next = refl; kept = l′ .kept; prefix = prefix; over = (refl, inside); row = row; tree = t .step; stored = l′ .stands };
+        under = (omega arith, (omega (arith, t .under .0), omega (arith, t .under .1)));
+      }
+
+-- the unsegmented tree and the segments
+module _ (s : List ℕ) (at p₀ : ℕ) (segments segments′ runs views runs′ views′ runs″ views″ : List ℕ) (row : TreeRow) (c d : Cursor) (k p₁ p₂ : ℕ)
+    (t : FilledIs (TreeStep s row) UnderTwo (treeAt s at) (two runs views start) (two runs′ views′ c) p₀) (e : listAt s p₀ ≡ group.Of k p₁) where
+  pub trees-under : (c .outer ≤ p₁) × (c .inner ≤ p₁)
+  trees-under = let a = group-within s p₀ 0 k p₁ e in (omega (arith, t .under .0), omega (arith, t .under .1))
+
+  pub trees-filled : FilledIs (Steps (SegmentStep s)) UnderThree (many (segmentAt s) k p₁) (three segments 0 runs′ views′ c) (three segments′ k runs″ views″ d) p₂
+      → FilledIs (TreesStep s row) UnderThree (treesAt s at) (three segments 0 runs views start) (three segments′ k runs″ views″ d) p₂
+  unfolding treesAt
+  trees-filled g =
+      record {
+        value = record { tree = t .value; segments = g .value };
+        read = rw (t .read, e, g .read);
+        step = record { between = two runs′ views′ c; tree = t .step; segments = g .step };
+        under = g .under;
+      }
