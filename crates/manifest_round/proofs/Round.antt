@@ -1,11 +1,11 @@
 -- THE ROUND TRIP: reading what was written gives the same manifest. Assumes nothing.
-use Prim.Native.Nat.{ℕ, zero, suc, _+_, _-_, _^_, _≤_, _<_}
-use mathlib.Core.Path.{_≡_, refl, sym, ap, _∙_}
+use Prim.Native.Nat.{ℕ, _+_, _-_, _^_, _≤_, _<_}
+use mathlib.Core.Path.{_≡_, sym, ap, _∙_}
 use mathlib.Core.List.{List, [], _∷_, _++_, map, append-assoc, append-nil}
 use native.Mathlib.Omega.{arith}
-use native.Mathlib.Nat.{zero-add, add-zero}
+use native.Mathlib.Nat.{zero-add}
 use lib.Dec.{lit<, lit≤}
-use lib.ListN.{length, take, drop, length-append, length-map}
+use lib.ListN.{length, drop, length-append, length-map}
 use Rattle.keys.specs.Range.{Edge, unbounded, included, excluded}
 use Rattle.ids.specs.Id.{idBytes}
 use Rattle.ids.specs.declared.SstId.{SstId}
@@ -16,12 +16,12 @@ use Rattle.ids.specs.declared.SstMark.the-variants as sst-mark
 use Rattle.ids.specs.declared.Final.{Final}
 use Rattle.ids.specs.declared.Final.the-variants as final
 use Rattle.records.specs.Model.{LastKey, unknown, known, Seen, all, only, View, Run, Tree, Segment, Borrow, Extractor, none, named, Manifest}
-use Rattle.msgpack_put.specs.Write.{uintBytes, intBytes, flagBytes, nilBytes, arrayBytes, binHead, binBytes, idPart, concat, groupBytes}
+use Rattle.msgpack_put.specs.Write.{uintBytes, intBytes, flagBytes, arrayBytes, binBytes, idPart, concat, groupBytes}
 use Rattle.msgpack_put.proofs.Back.{on, uint-back, int-back, flag-back, group-back, bin-back, bytes-back, nil-back, bin-present, array-present, id-back, rest-back}
 use Rattle.msgpack_put.proofs.Puts.{id-length}
 use Rattle.manifest_write.specs.Bytes.{listBytes, viewMarkBytes, sstMarkBytes, finalBytes, sstIdBytes, edgeBytes, seenBytes, lastBytes, viewBytes, runBytes, treeBytes, segmentBytes, segmentsBytes, borrowBytes, nameBytes, manifestBytes}
-use Rattle.manifest_values.specs.Read.{Got, is, wrong, many, listOf, most, edgeBy, keyAt, sstIdAt, viewMarkAt, sstMarkAt, finalAt, edgeAt, seenAt, lastAt, viewAt, runAt, treeAt, segmentAt, borrowAt, nameAt, treesAt, borrowsAt, numbersAt, epochsAt, manifestAt}
-use Rattle.manifest_round.specs.Fits.{Halves, Short, ViewMarkFits, SstMarkFits, FinalFits, EdgeFits, SeenFits, LastFits, NameFits, AllFit, ListFits, ViewFits, RunFits, TreeFits, SegmentFits, IdFits, BorrowFits, ManifestFits}
+use Rattle.manifest_values.specs.Read.{Got, is, many, listOf, most, edgeBy, keyAt, sstIdAt, viewMarkAt, sstMarkAt, finalAt, edgeAt, seenAt, lastAt, viewAt, runAt, treeAt, segmentAt, borrowAt, nameAt, treesAt, borrowsAt, numbersAt, epochsAt, manifestAt}
+use Rattle.manifest_round.specs.Fits.{Short, ViewMarkFits, SstMarkFits, FinalFits, EdgeFits, SeenFits, LastFits, NameFits, AllFit, ListFits, ViewFits, RunFits, TreeFits, SegmentFits, IdFits, BorrowFits, ManifestFits}
 
 -- wherever x was written, x is read there
 abbrev pub Back : {A : Type 0} → (List ℕ → ℕ → Got A) → (A → List ℕ) → A → Type 0

@@ -1,12 +1,11 @@
 -- What is written of a manifest is well-formed by the public specification, and no deeper than 16. Assumes nothing.
-use Prim.Native.Nat.{ℕ, suc, _^_, _<_}
-use mathlib.Core.Path.{_≡_, refl, sym}
+use Prim.Native.Nat.{ℕ, suc, _<_}
+use mathlib.Core.Path.{_≡_}
 use mathlib.Core.List.{List, [], _∷_, map}
 use lib.Dec.{lit<}
-use lib.ListN.{length, length-map}
+use lib.ListN.{length-map}
 use native.Mathlib.Omega.{arith}
 use Rattle.keys.specs.Range.{Edge, unbounded, included, excluded}
-use Rattle.ids.specs.declared.SstId.{SstId}
 use Rattle.ids.specs.declared.ViewMark.{ViewMark}
 use Rattle.ids.specs.declared.ViewMark.the-variants as view-mark
 use Rattle.ids.specs.declared.SstMark.{SstMark}

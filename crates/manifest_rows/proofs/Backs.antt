@@ -1,20 +1,18 @@
 -- The rows that were filled in read back as what was read, and each lies within its tables. Assumes nothing.
-use Prim.Native.Nat.{ℕ, zero, suc, _+_, _*_, _/_, _^_, _≤_, _<_}
-use mathlib.Core.Path.{_≡_, refl, sym, ap, _∙_}
-use mathlib.Core.Bool.{Bool, true, false, _&&_}
+use Prim.Native.Nat.{ℕ, suc, _+_, _*_, _/_, _^_, _≤_, _<_}
+use mathlib.Core.Path.{_≡_, refl, sym, _∙_}
+use mathlib.Core.Bool.{Bool, true, _&&_}
 use mathlib.Core.List.{List, [], _∷_, _++_}
 use native.Mathlib.Omega.{arith}
-use native.Mathlib.Nat.{add-assoc, add-zero}
+use native.Mathlib.Nat.{add-assoc}
 use native.Mathlib.Numerals.{add-one}
 use borrow.Author.Tests.{le-leb, lt-ltb}
-use lib.Dec.{leb}
 use lib.ListN.{length, length-append}
 use Rattle.keys.specs.declared.Bound.{Bound}
 use Rattle.keys.specs.declared.Bound.the-variants.{Unbounded, Included, Excluded}
 use Rattle.tables.specs.Layout.{upTo}
 use Rattle.tables.specs.Window.{liesIn, heldOf}
-use Rattle.tables.specs.declared.Window.{Window}
-use Rattle.tables.proofs.Holds.{Holds, holds-head, holds-word}
+use Rattle.tables.proofs.Holds.{Holds, holds-word}
 use Rattle.records.specs.Model.{View, Run, Tree, Segment, Borrow, Manifest}
 use Rattle.records.specs.Row.{at, viewAt, runAt, segmentAt, borrowAt, idAt}
 use Rattle.records.specs.Words.{boundCell, lastCell, viewMarkCell, sstMarkCell, finalCell, visibleCells, viewWords, runWords, treeWords, segmentWords, borrowWords, idWords}

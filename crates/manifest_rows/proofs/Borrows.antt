@@ -1,6 +1,6 @@
 -- Ids and borrows filled in. Assumes nothing.
-use Prim.Native.Nat.{ℕ, suc, _+_, _≤_, _<_}
-use mathlib.Core.Path.{_≡_, refl, sym, ap, _∙_}
+use Prim.Native.Nat.{ℕ, _+_, _≤_}
+use mathlib.Core.Path.{_≡_, refl}
 use mathlib.Core.List.{List}
 use native.Mathlib.Omega.{arith}
 use lib.ListN.{length}
@@ -11,11 +11,11 @@ use Rattle.records.specs.Words.{idWords, borrowWords}
 use Rattle.records.specs.declared.Place.{Place}
 use Rattle.msgpack.specs.Skip.{restAt}
 use Rattle.msgpack.specs.Read.{idAt, groupAt, listAt}
-use Rattle.msgpack.specs.declared.Skipped.the-variants.{Past, Bad}
+use Rattle.msgpack.specs.declared.Skipped.the-variants.{Past}
 use Rattle.msgpack.specs.declared.Id.the-variants as id
 use Rattle.msgpack.specs.declared.Group.the-variants as group
 use Rattle.msgpack.proofs.Told.{group-within}
-use Rattle.manifest_values.specs.Read.{Got, is, wrong, many, keyAt, sstIdAt, finalAt, borrowAt}
+use Rattle.manifest_values.specs.Read.{is, many, keyAt, sstIdAt, finalAt, borrowAt}
 use Rattle.manifest_rows.specs.Stored.{Laid, FilledIs, Steps, table, Under, IdStep, two, UnderTwo, PlaceIn, BorrowStep}
 use Rattle.manifest_rows.proofs.Goes.{goes, goes-sst-id, goes-borrow, goes-key, goes-final, rest-past}
 use Rattle.manifest_rows.proofs.Turns.{many-length}

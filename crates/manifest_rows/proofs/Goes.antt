@@ -1,14 +1,13 @@
 -- What is read has no more rows than bytes, so no count of rows wraps. Assumes nothing.
-use Prim.Native.Nat.{ℕ, zero, suc, _+_, _-_, _^_, _≤_, _<_}
-use mathlib.Core.Path.{_≡_, refl, sym, ap, _∙_}
-use mathlib.Core.List.{List, [], _∷_, _++_}
+use Prim.Native.Nat.{ℕ, zero, suc, _+_, _-_, _≤_, _<_}
+use mathlib.Core.Path.{_≡_, refl}
+use mathlib.Core.List.{List}
 use native.Mathlib.Omega.{arith}
 use lib.ListN.{length, take, drop}
 use lib.Dec.{eqb}
 use mathlib.Core.Bool.{Bool, true, false}
 use Rattle.keys.specs.Pick.{pick}
 use Rattle.keys.specs.BigEndian.{be}
-use Rattle.records.specs.Model.{View, Run, Tree, Segment, Borrow}
 use Rattle.msgpack.specs.Head.{headOf}
 use Rattle.msgpack.specs.Skip.{after, manyOf, valueOf, restAt, deepest}
 use Rattle.msgpack.specs.Read.{uintAt, binAt, idAt, groupAt, optionalAt, optionalBy, onUint, onBin, onId, onGroup, onSkipped, onOptional}
@@ -20,12 +19,9 @@ use Rattle.msgpack.specs.declared.Uint.{Uint}
 use Rattle.msgpack.specs.declared.Uint.the-variants as uint
 use Rattle.msgpack.specs.declared.Bin.{Bin}
 use Rattle.msgpack.specs.declared.Bin.the-variants as bin
-use Rattle.msgpack.specs.declared.Id.{Id}
 use Rattle.msgpack.specs.declared.Id.the-variants as id
 use Rattle.msgpack.specs.declared.Group.{Group}
 use Rattle.msgpack.specs.declared.Group.the-variants as group
-use Rattle.msgpack.specs.declared.Optional.{Optional}
-use Rattle.msgpack.specs.declared.Optional.the-variants as optional
 use Rattle.msgpack.proofs.Ahead.{Ahead, head-within, past-within}
 use Rattle.msgpack.proofs.Told.{UintTold, uint-told, GroupTold, group-told, BinTold, bin-told}
 use Rattle.manifest_values.specs.Read.{Got, is, wrong, on, ended, many, listOf, optionOf, keyAt, lastAt, edgeAt, edgeBy, seenAt, viewAt, runAt, viewMarkAt, sstMarkAt, finalAt, sstIdAt, treeAt, segmentAt, borrowAt}

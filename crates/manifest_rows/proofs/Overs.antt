@@ -1,5 +1,5 @@
 -- The rows over the input stand for what is read from it. Assumes nothing.
-use Prim.Native.Nat.{ℕ, zero, suc, _+_, _≤_}
+use Prim.Native.Nat.{ℕ, zero, suc}
 use mathlib.Core.Path.{_≡_, refl, sym, ap, _∙_}
 use mathlib.Core.List.{List}
 use native.Mathlib.Omega.{arith}
@@ -7,13 +7,11 @@ use lib.ListN.{length, take, drop}
 use Rattle.keys.specs.Range.{Edge}
 use Rattle.keys.specs.Pool.{edgeOf}
 use Rattle.keys.specs.declared.Bound.{Bound}
-use Rattle.keys.specs.declared.Bound.the-variants.{Unbounded}
-use Rattle.records.specs.Model.{LastKey, Seen, View, Extractor}
+use Rattle.records.specs.Model.{LastKey, Seen, Extractor}
 use Rattle.records.specs.Decode.{bytesIn, lastIn, seenIn, viewIn, nameIn}
 use Rattle.records.specs.declared.Place.{Place}
 use Rattle.records.specs.declared.Last.{Last}
 use Rattle.records.specs.declared.Visible.{Visible}
-use Rattle.records.specs.declared.ViewRow.{ViewRow}
 use Rattle.msgpack.specs.Skip.{restAt}
 use Rattle.msgpack.specs.Read.{uintAt, binAt, idAt, groupAt, optionalAt, onUint, onBin, onId, onGroup, onSkipped, onOptional}
 use Rattle.msgpack.specs.declared.Skipped.{Skipped}

@@ -1,18 +1,17 @@
 -- Runs filled in. Assumes nothing.
-use Prim.Native.Nat.{ℕ, suc, _+_, _-_, _^_, _≤_, _<_}
-use mathlib.Core.Path.{_≡_, refl, sym, ap, _∙_}
+use Prim.Native.Nat.{ℕ, _+_, _-_, _^_, _≤_}
+use mathlib.Core.Path.{_≡_, refl}
 use mathlib.Core.List.{List}
 use native.Mathlib.Omega.{arith}
 use lib.ListN.{length}
 use Rattle.records.specs.Words.{runWords}
 use Rattle.msgpack.specs.Skip.{restAt}
 use Rattle.msgpack.specs.Read.{uintAt, groupAt, listAt}
-use Rattle.msgpack.specs.declared.Skipped.the-variants.{Past, Bad}
+use Rattle.msgpack.specs.declared.Skipped.the-variants.{Past}
 use Rattle.msgpack.specs.declared.Uint.the-variants as uint
 use Rattle.msgpack.specs.declared.Group.the-variants as group
 use Rattle.msgpack.proofs.Told.{group-within, uint-within}
-use Rattle.manifest_values.specs.Read.{Got, is, wrong, many, viewAt, runAt}
-use Rattle.manifest_rows.specs.declared.Cursor.{Cursor}
+use Rattle.manifest_values.specs.Read.{is, many, viewAt, runAt}
 use Rattle.manifest_rows.specs.Stored.{Laid, FilledIs, Steps, table, Under, ViewStep, two, UnderTwo, RunStep}
 use Rattle.manifest_rows.proofs.Goes.{goes, goes-run, rest-past}
 use Rattle.manifest_rows.proofs.Turns.{many-length}

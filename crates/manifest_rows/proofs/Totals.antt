@@ -1,11 +1,9 @@
 -- The cursors count what the manifest fills: its rows, each once. Assumes nothing.
 use Prim.Native.Nat.{ℕ, _+_}
 use mathlib.Core.Path.{_≡_, refl, sym, ap, _∙_}
-use mathlib.Core.List.{List, [], _∷_, _++_}
+use mathlib.Core.List.{List, [], _∷_}
 use native.Mathlib.Omega.{arith}
 use native.Mathlib.Nat.{zero-add}
-use lib.ListN.{length}
-use Rattle.ids.specs.declared.SstId.{SstId}
 use Rattle.records.specs.Model.{View, Run, Tree, Segment, Borrow, Manifest}
 use Rattle.records.specs.Decode.{Lent}
 use Rattle.records.specs.Fill.{empty, plus, sum, views, runs, segments, borrows, ids, keyFill, nameKeys, viewKeys, viewFill, runFill, treeFill, segmentFill, borrowFill, manifestFill}

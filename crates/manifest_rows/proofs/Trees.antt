@@ -1,22 +1,21 @@
 -- Trees and segments filled in. Assumes nothing.
-use Prim.Native.Nat.{ℕ, suc, _+_, _≤_, _<_}
-use mathlib.Core.Path.{_≡_, refl, sym, ap, _∙_}
+use Prim.Native.Nat.{ℕ, _+_, _≤_}
+use mathlib.Core.Path.{_≡_, refl}
 use mathlib.Core.List.{List}
 use native.Mathlib.Omega.{arith}
 use lib.ListN.{length}
 use Rattle.ids.specs.declared.ViewMark.{ViewMark}
 use Rattle.ids.specs.declared.SstMark.{SstMark}
-use Rattle.records.specs.Model.{Tree, Segment}
 use Rattle.records.specs.Decode.{bytesIn}
 use Rattle.records.specs.Words.{treeWords, segmentWords}
 use Rattle.records.specs.declared.Place.{Place}
 use Rattle.records.specs.declared.TreeRow.{TreeRow}
 use Rattle.msgpack.specs.Skip.{restAt}
 use Rattle.msgpack.specs.Read.{groupAt, listAt}
-use Rattle.msgpack.specs.declared.Skipped.the-variants.{Past, Bad}
+use Rattle.msgpack.specs.declared.Skipped.the-variants.{Past}
 use Rattle.msgpack.specs.declared.Group.the-variants as group
 use Rattle.msgpack.proofs.Told.{group-within}
-use Rattle.manifest_values.specs.Read.{Got, is, wrong, many, keyAt, viewAt, runAt, viewMarkAt, sstMarkAt, treeAt, segmentAt, treesAt}
+use Rattle.manifest_values.specs.Read.{is, many, keyAt, viewAt, runAt, viewMarkAt, sstMarkAt, treeAt, segmentAt, treesAt}
 use Rattle.manifest_rows.specs.declared.Cursor.{Cursor}
 use Rattle.manifest_rows.specs.Stored.{Laid, FilledIs, Steps, table, Under, ViewStep, two, UnderTwo, RunStep, PlaceIn, TreeStep, three, UnderThree, SegmentStep, TreesStep, start}
 use Rattle.manifest_rows.proofs.Goes.{goes, goes-view-mark, goes-sst-mark, goes-key, goes-segment, goes-many, goes-view, rest-past}

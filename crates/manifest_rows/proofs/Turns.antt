@@ -1,9 +1,9 @@
 -- Lists read one by one: a loop's turns. Assumes nothing.
 use Prim.Native.Nat.{ℕ, zero, suc, _+_, _-_, _≤_, _<_}
-use mathlib.Core.Path.{_≡_, refl, sym, ap, _∙_}
+use mathlib.Core.Path.{_≡_, refl, ap, _∙_}
 use mathlib.Core.List.{List, [], _∷_, _++_}
 use native.Mathlib.Omega.{arith}
-use native.Mathlib.Nat.{zero-add, suc-add, sub-zero}
+use native.Mathlib.Nat.{zero-add, suc-add}
 use lib.ListN.{length, length-append}
 use Rattle.msgpack.specs.declared.Skipped.{Skipped}
 use Rattle.msgpack.specs.declared.Skipped.the-variants.{Past, Bad}

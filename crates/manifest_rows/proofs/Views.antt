@@ -1,12 +1,11 @@
 -- Views filled in. Assumes nothing.
-use Prim.Native.Nat.{ℕ, suc, _+_, _≤_}
+use Prim.Native.Nat.{ℕ, _+_, _≤_}
 use mathlib.Core.Path.{_≡_, refl, sym, ap, _∙_}
 use mathlib.Core.List.{List}
 use native.Mathlib.Omega.{arith}
-use lib.ListN.{length}
 use Rattle.records.specs.Words.{viewWords}
 use Rattle.records.specs.declared.ViewRow.{ViewRow}
-use Rattle.manifest_values.specs.Read.{Got, is, wrong, viewAt}
+use Rattle.manifest_values.specs.Read.{is, wrong, viewAt}
 use Rattle.manifest_values.specs.Rows as rows
 use Rattle.manifest_values.specs.Rows.{gotView}
 use Rattle.manifest_values.specs.declared.GotView.{GotView}

@@ -1,11 +1,9 @@
 -- Which manifest some bytes are, or where the first wrong value starts. "Reading accepts every integer, array and bin width"; "an array
 -- too short is itself wrong"; "Further elements after the named ones are skipped, nested ones included."
 use Prim.Native.Nat.{ℕ, zero, suc, _-_, _^_}
-use mathlib.Core.Bool.{Bool}
 use mathlib.Core.List.{List, [], _∷_}
-use lib.IntN.{ℤ}
 use lib.ListN.{take, drop}
-use Rattle.keys.specs.Range.{Edge, unbounded, included, excluded, Edges}
+use Rattle.keys.specs.Range.{Edge, unbounded, included, excluded}
 use Rattle.ids.specs.declared.SstId.{SstId}
 use Rattle.ids.specs.declared.ViewMark.{ViewMark}
 use Rattle.ids.specs.declared.ViewMark.the-variants as view-mark

@@ -1,10 +1,9 @@
 use Rattle.manifest_values.specs.Rows.{gotFinal}
-use Rattle.manifest_rows.proofs.Overs.{place-is, place-wrong}
+use Rattle.manifest_rows.proofs.Overs.{place-is, place-wrong, place-in}
 use Rattle.manifest_rows.proofs.Turns.{filled-is, filled-wrong}
 use mathlib.Core.Path.{sym, ap, _∙_}
 use native.Mathlib.Omega.{arith}
 use Rattle.manifest_values.specs.Read.{borrowAt}
-use Rattle.manifest_rows.proofs.Overs.{place-in}
 use Rattle.manifest_rows.proofs.Borrows.{borrow-under, borrow-past, borrow-filled}
 use borrow.Author.Needs.{needs}
 use Rattle.manifest_rows.proofs.fill_borrow.Statement.{statement}

@@ -1,4 +1,4 @@
-use mathlib.Core.Path.{sym, ap, _∙_}
+use mathlib.Core.Path.{sym, _∙_}
 use Rattle.manifest_rows.proofs.Borrows.{id-filled}
 use borrow.Author.Needs.{needs}
 use Rattle.manifest_rows.proofs.fill_id.Statement.{statement}

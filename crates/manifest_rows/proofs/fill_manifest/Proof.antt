@@ -1,10 +1,9 @@
 use Rattle.manifest_values.specs.Rows.{gotEpochs, gotNumbers}
-use Rattle.manifest_rows.proofs.Overs.{name-is, name-wrong}
+use Rattle.manifest_rows.proofs.Overs.{name-is, name-wrong, name-in}
 use Rattle.manifest_rows.proofs.Turns.{moves-is, moves-wrong, trees-is, trees-wrong}
 use mathlib.Core.Path.{sym, ap, _∙_}
 use mir.Facts.{toZ-ofZ}
 use Rattle.manifest_values.specs.Read.{manifestAt}
-use Rattle.manifest_rows.proofs.Overs.{name-in}
 use Rattle.manifest_values.proofs.Fits.{numbers-fit}
 use Rattle.manifest_rows.proofs.Manifests.{manifest-filled}
 use borrow.Author.Needs.{needs}

@@ -1,5 +1,5 @@
 use Rattle.manifest_rows.proofs.Turns.{filled-is, filled-wrong}
-use mathlib.Core.Path.{sym, ap, _∙_}
+use mathlib.Core.Path.{sym, _∙_}
 use native.Mathlib.Omega.{arith}
 use Rattle.manifest_values.specs.Read.{runAt}
 use Rattle.manifest_rows.proofs.Runs.{run-under, run-past, run-filled}

@@ -1,8 +1,7 @@
-use Rattle.manifest_rows.proofs.Overs.{place-is, place-wrong}
+use Rattle.manifest_rows.proofs.Overs.{place-is, place-wrong, place-in}
 use Rattle.manifest_rows.proofs.Turns.{tree-is, tree-wrong}
-use mathlib.Core.Path.{sym, ap, _∙_}
+use mathlib.Core.Path.{sym, _∙_}
 use Rattle.manifest_values.specs.Read.{segmentAt}
-use Rattle.manifest_rows.proofs.Overs.{place-in}
 use Rattle.manifest_rows.proofs.Trees.{segment-under, segment-filled}
 use borrow.Author.Needs.{needs}
 use Rattle.manifest_rows.proofs.fill_segment.Statement.{statement}

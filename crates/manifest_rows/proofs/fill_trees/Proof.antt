@@ -1,5 +1,5 @@
 use Rattle.manifest_rows.proofs.Turns.{segment-is, segment-wrong, tree-is, tree-wrong}
-use mathlib.Core.Path.{sym, ap, _∙_}
+use mathlib.Core.Path.{sym, _∙_}
 use mathlib.Core.List.{[]}
 use Rattle.manifest_values.specs.Read.{treesAt}
 use Rattle.manifest_rows.specs.Stored.{start}

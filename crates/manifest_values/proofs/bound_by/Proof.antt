@@ -1,4 +1,3 @@
-use borrow.Author.Needs.{needs}
 use Rattle.manifest_values.proofs.Places.{bound-by-rest}
 use Rattle.manifest_values.proofs.bound_by.Statement.{statement}
 use Rattle.manifest_values.proofs.bound_by.Tie as tie

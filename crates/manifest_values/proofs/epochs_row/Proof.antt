@@ -1,4 +1,4 @@
-use mathlib.Core.Path.{sym, ap, _∙_}
+use mathlib.Core.Path.{sym, _∙_}
 use Rattle.manifest_values.specs.Read.{epochsAt}
 use borrow.Author.Needs.{needs}
 use Rattle.manifest_values.proofs.epochs_row.Statement.{statement}

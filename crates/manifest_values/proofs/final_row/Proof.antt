@@ -1,4 +1,4 @@
-use mathlib.Core.Path.{sym, ap, _∙_}
+use mathlib.Core.Path.{sym, _∙_}
 use borrow.Author.Needs.{needs}
 use Rattle.manifest_values.proofs.final_row.Statement.{statement}
 use Rattle.manifest_values.proofs.final_row.Tie as tie

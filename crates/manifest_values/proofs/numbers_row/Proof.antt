@@ -1,5 +1,5 @@
 use Rattle.manifest_values.proofs.Fits.{numbers-held, int-fits}
-use mathlib.Core.Path.{sym, ap, _∙_}
+use mathlib.Core.Path.{sym, _∙_}
 use Rattle.manifest_values.specs.Read.{numbersAt}
 use borrow.Author.Needs.{needs}
 use Rattle.manifest_values.proofs.numbers_row.Statement.{statement}
