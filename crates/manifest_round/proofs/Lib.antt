@@ -1,3 +1,4 @@
+pub mod Lawful
 pub mod Read
 pub mod Round
 pub mod Well
