@@ -1,13 +1,13 @@
 -- The canonical copy: what it answers and what every lent output then holds.
-use Prim.Native.Nat.{ℕ, _/_}
+use Prim.Native.Nat.{ℕ, _*_, _/_}
 use mathlib.Core.Bool.{Bool, not, _&&_}
 use mathlib.Core.List.{List, [], _∷_}
 use lib.ListN.{length}
 use Rattle.keys.specs.Pick.{pick}
-use Rattle.tables.specs.Layout.{over}
+use Rattle.tables.specs.Layout.{write, over}
 use Rattle.records.specs.Model.{Manifest}
-use Rattle.records.specs.Fill.{fits, manifestFill}
-use Rattle.records.specs.Layout.{layout, manifestRow}
+use Rattle.records.specs.Fill.{plus, fits, manifestFill}
+use Rattle.records.specs.Layout.{layout, manifestRow, layoutAt, manifestRowAt}
 use Rattle.records.specs.Decode.{Lent, manifestIn}
 use Rattle.records.specs.Refusals.{refusal}
 use Rattle.records.specs.declared.Refusal.the-variants.{Unlawful, NoRoom}
@@ -15,6 +15,7 @@ use Rattle.records.specs.declared.Fill.{Fill}
 use Rattle.records.specs.declared.Limits.{Limits}
 use Rattle.records.specs.declared.ManifestRow.{ManifestRow}
 use Rattle.measure.specs.Measure.{l1Of}
+unfoldable pub use Rattle.measure.specs.Within.{noRoom}
 use Rattle.copy.specs.declared.Copied.{Copied}
 use Rattle.copy.specs.declared.Copied.the-variants.{Done, Refused}
 
@@ -29,11 +30,6 @@ roomOf o =
       ids = length (o .ids) / 2;
       bytes = length (o .pool);
     }
-
--- Refusal 4: "result breaks a number in L1, or a lent output is too short: fewer places (one a record or id) or bytes than the
--- result fills"
-unfoldable pub noRoom : Limits → Fill → Fill → Bool
-noRoom lim room result = not (fits result (lim .fill) && fits result room)
 
 -- the layout of a manifest at the front of the lent tables; the rest as lent
 abbrev pub laidOver : Lent → Lent → Lent
@@ -62,6 +58,31 @@ givenOf lim m o =
 -- The copy needs L1 alone; a manifest that breaks it is refusal 1, rule 1.
 unfoldable pub copyOf : Limits → Lent → ManifestRow → Lent → Outcome
 copyOf lim l m o = pick (l1Of lim l m) (givenOf lim (manifestIn l m) o) (record { answer = Refused (Unlawful 1); out = o })
+
+-- ---- behind what fills c, where the same tables hold several manifests
+
+unfoldable pub noRoomAt : Limits → Fill → Fill → Fill → Bool
+noRoomAt lim room c result = not (fits result (lim .fill) && fits (plus c result) room)
+
+abbrev pub laidAt : Fill → Lent → Lent → Lent
+laidAt c o l =
+    record {
+      segments = write (o .segments) (c .segments * 12) (l .segments);
+      views = write (o .views) (c .views * 16) (l .views);
+      runs = write (o .runs) (c .runs * 3) (l .runs);
+      borrows = write (o .borrows) (c .borrows * 9) (l .borrows);
+      ids = write (o .ids) (c .ids * 2) (l .ids);
+      pool = write (o .pool) (c .bytes) (l .pool);
+    }
+
+unfoldable pub givenAt : Limits → Fill → Manifest → Lent → Outcome
+givenAt lim c m o =
+    pick (noRoomAt lim (roomOf o) c (manifestFill m))
+    (record { answer = Refused NoRoom; out = o })
+    (record { answer = Done (manifestRowAt c m); out = laidAt c o (layoutAt c m) })
+
+unfoldable pub copyAtOf : Limits → Fill → Lent → ManifestRow → Lent → Outcome
+copyAtOf lim c l m o = pick (l1Of lim l m) (givenAt lim c (manifestIn l m) o) (record { answer = Refused (Unlawful 1); out = o })
 
 -- the number and the values of each answer
 abbrev pub copied : Copied → List ℕ

@@ -84,11 +84,11 @@ hidden-by pool first last visible e seen met r p q m h =
     in
     h ∙ ap (λ (z : Range). emptyOf (edgeOf pool (z .start)) (edgeOf pool (z .end))) is
 
-last-edge : (pool : List ℕ) (last : Last) → edgeOf pool (lastBound last) ≡ lastEnd (lastIn pool last)
+pub last-edge : (pool : List ℕ) (last : Last) → edgeOf pool (lastBound last) ≡ lastEnd (lastIn pool last)
 last-edge pool Unknown = refl
 last-edge pool (Known p) = refl
 
-seen-edges : (pool : List ℕ) (visible : Visible) → edgesOf pool (seenRow visible) ≡ seenEdges (seenIn pool visible)
+pub seen-edges : (pool : List ℕ) (visible : Visible) → edgesOf pool (seenRow visible) ≡ seenEdges (seenIn pool visible)
 seen-edges pool All = refl
 seen-edges pool (Only r) = refl
 

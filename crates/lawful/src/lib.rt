@@ -154,7 +154,8 @@ fn is_ordered(pool: &[u8], first: Place, last: Last) -> bool
 }
 
 // Where the physical range ends.
-fn last_bound(last: Last) -> Bound
+// inner
+pub fn last_bound(last: Last) -> Bound
     ensures { λ r. ⌜ r ≡ lastBound last ⌝ }
 {
     match last {
@@ -164,7 +165,8 @@ fn last_bound(last: Last) -> Bound
 }
 
 // The visible range, or all keys.
-fn seen_range(visible: Visible) -> Range
+// inner
+pub fn seen_range(visible: Visible) -> Range
     ensures { λ r. ⌜ r ≡ seenRow visible ⌝ }
 {
     match visible {

@@ -14,10 +14,10 @@ use Rattle.records.specs.declared.Limits.{Limits}
 use Rattle.records.specs.declared.Refusal.{Refusal}
 use Rattle.records.specs.declared.Refusal.the-variants.{Unlawful, OverLimit, NoRoom, NotWellFormed, NotTheRecord}
 use Rattle.measure.specs.Within.{within}
-use Rattle.lawful.specs.Law.{l2Of, l3Of, l4Of, l5Of}
+use Rattle.lawful.specs.Judge.{rulesOf}
 use Rattle.lawful.specs.declared.Judged.{Judged}
 use Rattle.lawful.specs.declared.Judged.the-variants.{Lawful, Breaks}
-use Rattle.copy.specs.Copy.{Outcome, givenOf}
+use Rattle.copy.specs.Copy.{Outcome, givenOf, givenAt}
 use Rattle.copy.specs.declared.Copied.the-variants.{Refused}
 use Rattle.msgpack.specs.Skip.{wholeOf}
 use Rattle.msgpack.specs.declared.Whole.{Whole}
@@ -26,13 +26,7 @@ use Rattle.manifest_values.specs.Read.{Got, is, wrong, manifestAt}
 
 -- "a manifest breaks L1..L5", "first broken rule's number"
 unfoldable pub brokenOf : Limits → Manifest → Judged
-brokenOf lim m =
-    pick (not (within lim m)) (Breaks 1)
-    (pick (not (l2Of m)) (Breaks 2)
-    (pick (not (l3Of m)) (Breaks 3)
-    (pick (not (l4Of m)) (Breaks 4)
-    (pick (not (l5Of m)) (Breaks 5)
-    Lawful))))
+brokenOf lim m = rulesOf (within lim m) m
 
 -- "A refused reading leaves the lent output as it was."
 abbrev pub refused : Refusal → Lent → Outcome
@@ -42,15 +36,15 @@ abbrev pub byLaw : Judged → Outcome → Lent → Outcome
 byLaw Lawful given o = given
 byLaw (Breaks rule) given o = refused (Unlawful rule) o
 
--- "well-formed, not the record", "start of the first wrong value"
-abbrev pub byRecord : Limits → Lent → Got Manifest → Outcome
-byRecord lim o (wrong q) = refused (NotTheRecord q) o
-byRecord lim o (is m p) = byLaw (brokenOf lim m) (givenOf lim m o) o
+-- "well-formed, not the record", "start of the first wrong value"; `give` is what a lawful manifest comes to
+abbrev pub byRecord : Limits → (Manifest → Outcome) → Lent → Got Manifest → Outcome
+byRecord lim give o (wrong q) = refused (NotTheRecord q) o
+byRecord lim give o (is m p) = byLaw (brokenOf lim m) (give m) o
 
 -- "not well-formed MessagePack, bytes left over, nesting above 16", "start of the first innermost bad value .., or of what is left"
-abbrev pub byWhole : Limits → List ℕ → Lent → Whole → Outcome
-byWhole lim s o (Bad q) = refused (NotWellFormed q) o
-byWhole lim s o Good = byRecord lim o (manifestAt s 0)
+abbrev pub byWhole : Limits → (Manifest → Outcome) → List ℕ → Lent → Whole → Outcome
+byWhole lim give s o (Bad q) = refused (NotWellFormed q) o
+byWhole lim give s o Good = byRecord lim give o (manifestAt s 0)
 
 -- the places of lent working tables; their pool is the input, which holds every byte that it names
 abbrev pub workRoom : Limits → Lent → Fill
@@ -65,8 +59,16 @@ workRoom lim w =
     }
 
 -- "an encoded manifest longer than 65,536 bytes" is 2
-unfoldable pub readOf : Limits → List ℕ → Lent → Lent → Outcome
-readOf lim s w o =
+abbrev pub readBy : Limits → (Manifest → Outcome) → List ℕ → Lent → Lent → Outcome
+readBy lim give s w o =
     pick (ltb 0x1_0000 (length s)) (refused OverLimit o)
     (pick (not (fits (lim .fill) (workRoom lim w))) (refused NoRoom o)
-    (byWhole lim s o (wholeOf s)))
+    (byWhole lim give s o (wholeOf s)))
+
+-- laid out at the front of the lent tables
+unfoldable pub readOf : Limits → List ℕ → Lent → Lent → Outcome
+readOf lim s w o = readBy lim (λ m. givenOf lim m o) s w o
+
+-- behind what fills c, where the same tables hold several manifests
+unfoldable pub readAtOf : Limits → List ℕ → Lent → Lent → Fill → Outcome
+readAtOf lim s w o c = readBy lim (λ m. givenAt lim c m o) s w o

@@ -1,12 +1,13 @@
 -- L1's numbers, over a manifest of the model.
 use Prim.Native.Nat.{ℕ}
-use mathlib.Core.Bool.{Bool, _&&_}
+use mathlib.Core.Bool.{Bool, not, _&&_}
 use mathlib.Core.List.{List, [], _∷_, _++_}
 use lib.Dec.{leb}
 use lib.ListN.{length}
 use Rattle.tables.specs.Layout.{joined}
 use Rattle.records.specs.Model.{View, Run, Tree, Segment, Borrow, Manifest, trees}
 use Rattle.records.specs.Fill.{fits, manifestFill, viewKeys, nameKeys}
+use Rattle.records.specs.declared.Fill.{Fill}
 use Rattle.records.specs.declared.Limits.{Limits}
 use Rattle.measure.specs.Tests.{allOf}
 
@@ -40,3 +41,8 @@ within lim m =
     && allOf (short (lim .name)) (nameKeys (m .extractor))
     && allOf (λ v. allOf (short (lim .key)) (viewKeys v)) (allViews m)
     && allOf (λ b. short (lim .path) (b .path)) (m .borrows)
+
+-- Refusal 4: "result breaks a number in L1, or a lent output is too short: fewer places (one a record or id) or bytes than the
+-- result fills"
+unfoldable pub noRoom : Limits → Fill → Fill → Bool
+noRoom lim room result = not (fits result (lim .fill) && fits result room)

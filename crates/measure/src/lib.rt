@@ -54,7 +54,8 @@ pub fn fits_in(a: Fill, most: Fill) -> bool
 }
 
 // What is left of `most` beside `c`.
-fn left_of(most: Fill, c: Fill) -> Fill
+// inner
+pub fn left_of(most: Fill, c: Fill) -> Fill
     requires { ⌜ fits c most ≡ true ⌝ }
     ensures { λ r. ⌜ r ≡ leftOf most c ⌝ }
 {
@@ -84,7 +85,8 @@ fn sum_of(most: Fill, a: Fill, b: Fill) -> Fill
 }
 
 // `c` and `more` together, where they are at most `most`. No sum is made that could wrap.
-fn add(most: Fill, c: Fill, more: Fill) -> Measured
+// inner
+pub fn add(most: Fill, c: Fill, more: Fill) -> Measured
     ensures { λ r. ⌜ r ≡ addOf most c more ⌝ }
 {
     if !fits_in(c, most) {
@@ -297,7 +299,9 @@ fn is_code(x: u64) -> bool
     x <= 1
 }
 
-fn segment_row(
+// A segment's prefix and tree, counted on from `c`.
+// inner
+pub fn segment_row(
     lim: Limits,
     views: &[u64],
     runs: &[u64],

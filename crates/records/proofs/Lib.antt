@@ -1,6 +1,7 @@
 pub mod Bytes
 pub mod Codes
 pub mod Columns
+pub mod Cursor
 pub mod Laid
 pub mod Lists
 pub mod Rows

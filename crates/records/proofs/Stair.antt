@@ -1,20 +1,16 @@
 -- The stair from the tables to the model: decoding a layout gives the manifest back. Assumes nothing.
-use Prim.Native.Nat.{ℕ, _*_}
 use mathlib.Core.Path.{_≡_, refl, sym, ap, _∙_}
-use mathlib.Core.List.{List, [], _++_, append-nil}
-use native.Mathlib.Omega.{arith}
-use lib.ListN.{length, drop, length-append}
-use Rattle.tables.specs.Layout.{joined}
-use Rattle.tables.proofs.Holds.{Holds, holds-front, holds-first, holds-rest, holds-place}
+use mathlib.Core.List.{[], _++_, append-nil}
+use lib.ListN.{length, drop}
+use Rattle.tables.proofs.Holds.{Holds, holds-front, holds-place}
 use Rattle.records.specs.Model.{Manifest}
-use Rattle.records.specs.Decode.{Lent, treeIn, segmentsIn, nameIn, borrowsIn, manifestIn}
-use Rattle.records.specs.Fill.{empty, nameKeys, borrowFill, manifestFill}
-use Rattle.records.specs.Layout.{run, treeRow, treeBytes, treeViewsLaid, treeRunsLaid, viewsLaid, runsLaid, runsViewsLaid, segmentBytes, segmentsLaid, segmentsViewsLaid, segmentsRunsLaid, nameRow, borrowsLaid, borrowIds, borrowPath, pastTree, pastSegments, pastName, manifestRow, layout}
+use Rattle.records.specs.Decode.{Lent, manifestIn}
+use Rattle.records.specs.Fill.{empty, manifestFill}
+use Rattle.records.specs.Layout.{treeBytes, treeViewsLaid, treeRunsLaid, viewsLaid, runsLaid, runsViewsLaid, segmentsLaid, segmentsViewsLaid, segmentsRunsLaid, borrowsLaid, manifestRow, layout}
 use Rattle.records.specs.New.{newManifest}
-use Rattle.records.proofs.Laid.{Table, segments, views, runs, borrows, ids, pool, at, column-long, laid-joined}
-use Rattle.records.proofs.Columns.{keys-fill, tree-fill, tree-views-long, tree-runs-long, tree-bytes-long, segments-fill, segmentRows, segmentViews, segmentRuns, borrows-fill, borrowRows, borrowIdRows}
-use Rattle.records.proofs.Bytes.{name-back}
-use Rattle.records.proofs.Lists.{tree-back, segments-back, borrows-back}
+use Rattle.records.proofs.Laid.{Table, segments, views, runs, borrows, ids, pool, at, at-empty}
+use Rattle.records.proofs.Cursor.{row-front, layout-front, layout-at-long, manifest-at-back}
+pub use Rattle.records.proofs.Cursor.{tableOf}
 
 -- each table of l begins with that of k
 pub record Begins (l k : Lent) : Type 0 where
@@ -50,40 +46,15 @@ begins-before k post =
 
 -- tables that begin with a manifest's layout hold that manifest
 pub manifest-back : (l : Lent) (m : Manifest) → Begins l (layout m) → manifestIn l (manifestRow m) ≡ m
-unfolding layout manifestIn manifestRow
-manifest-back l m b =
-    let t = m .tree in
-    let ss = m .segments in
-    let c = pastTree m in
-    let d = pastSegments m in
-    let e = pastName m in
-    let bytes₃ = joined borrowPath (m .borrows) in
-    let bytes₂ = run (nameKeys (m .extractor)) ++ bytes₃ in
-    let bytes₁ = joined segmentBytes ss ++ bytes₂ in
-    let p₁ : Holds (l .pool) (c .bytes) bytes₁ = holds-rest (l .pool) 0 (treeBytes t) bytes₁ (c .bytes) (rw (tree-bytes-long t) (omega arith)) (b .pool) in
-    let p₂ : Holds (l .pool) (d .bytes) bytes₂ = holds-rest (l .pool) (c .bytes) (joined segmentBytes ss) bytes₂ (d .bytes) (rw (segments-fill ss) (omega arith)) p₁ in
-    let p₃ : Holds (l .pool) (e .bytes) bytes₃ = holds-rest (l .pool) (d .bytes) (run (nameKeys (m .extractor))) bytes₃ (e .bytes) (rw (keys-fill (nameKeys (m .extractor))) (omega arith)) p₂ in
-    let none : c .segments ≡ 0 = rw (tree-fill t) (omega arith) in
-    let none₂ : (e .borrows ≡ 0) × (e .ids ≡ 0) = rw (tree-fill t, segments-fill ss, keys-fill (nameKeys (m .extractor))) (omega arith) in
-    let tree : treeIn (l .runs) (l .views) (l .pool) (treeRow empty t) ≡ t =
-    tree-back (l .runs) (l .views) (l .pool) empty t
-    (holds-first (l .runs) 0 (treeRunsLaid empty t) (segmentsRunsLaid c ss) (b .runs))
-    (holds-first (l .views) 0 (treeViewsLaid empty t) (segmentsViewsLaid c ss) (b .views))
-    (holds-first (l .pool) 0 (treeBytes t) bytes₁ (b .pool)) in
-    let segs : segmentsIn (l .segments) (l .runs) (l .views) (l .pool) (record { first = c .segments; count = length ss }) ≡ ss =
-    segments-back (l .segments) (l .runs) (l .views) (l .pool) c ss
-    (holds-place (l .segments) 0 (c .segments * 12) (segmentsLaid c ss) (rw none) (b .segments))
-    (holds-rest (l .runs) 0 (treeRunsLaid empty t) (segmentsRunsLaid c ss) (c .runs * 3) (rw (tree-runs-long empty t) (omega arith)) (b .runs))
-    (holds-rest (l .views) 0 (treeViewsLaid empty t) (segmentsViewsLaid c ss) (c .views * 16) (rw (tree-views-long empty t) (omega arith)) (b .views))
-    (holds-first (l .pool) (c .bytes) (joined segmentBytes ss) bytes₂ p₁) in
-    let name : nameIn (l .pool) (nameRow (d .bytes) (m .extractor)) ≡ m .extractor =
-    name-back (l .pool) (d .bytes) (m .extractor) (holds-first (l .pool) (d .bytes) (run (nameKeys (m .extractor))) bytes₃ p₂) in
-    let bors : borrowsIn (l .borrows) (l .ids) (l .pool) (record { first = e .borrows; count = length (m .borrows) }) ≡ m .borrows =
-    borrows-back (l .borrows) (l .ids) (l .pool) e (m .borrows)
-    (holds-place (l .borrows) 0 (e .borrows * 9) (borrowsLaid e (m .borrows)) (rw (none₂ .0)) (b .borrows))
-    (holds-place (l .ids) 0 (e .ids * 2) (joined borrowIds (m .borrows)) (rw (none₂ .1)) (b .ids))
-    p₃ in
-    rw (tree, rw none at segs, name, rw (none₂ .0) at bors)
+manifest-back l m b = rw (row-front m) at (manifest-at-back l empty m (λ t. rw (layout-front m) (holds-place (tableOf t l) 0 (at t empty) (tableOf t (layout m)) (sym (at-empty t)) (go t))))
+  where
+    go : (t : Table) → Holds (tableOf t l) 0 (tableOf t (layout m))
+    go segments = b .segments
+    go views = b .views
+    go runs = b .runs
+    go borrows = b .borrows
+    go ids = b .ids
+    go pool = b .pool
 
 -- whatever stands behind it
 pub decode-before : (m : Manifest) (post : Lent) → manifestIn (before (layout m) post) (manifestRow m) ≡ m
@@ -112,36 +83,9 @@ bare = record { segments = []; views = []; runs = []; borrows = []; ids = []; po
 pub decode-layout : (m : Manifest) → manifestIn (layout m) (manifestRow m) ≡ m
 decode-layout m = simp append-nil at (decode-before m bare)
 
--- ---- what a manifest fills is what its layout takes
-
-abbrev pub tableOf : Table → Lent → List ℕ
-tableOf segments l = l .segments
-tableOf views l = l .views
-tableOf runs l = l .runs
-tableOf borrows l = l .borrows
-tableOf ids l = l .ids
-tableOf pool l = l .pool
-
+-- what a manifest fills is what its layout takes
 pub layout-long : (t : Table) (m : Manifest) → length (tableOf t (layout m)) ≡ at t (manifestFill m)
-unfolding layout manifestFill segmentsLaid segmentsViewsLaid segmentsRunsLaid borrowsLaid
-layout-long segments m =
-    column-long segmentRows (pastTree m) (m .segments)
-    ∙ rw (tree-fill (m .tree), keys-fill (nameKeys (m .extractor)), borrows-fill (m .borrows)) (omega arith)
-layout-long views m =
-    rw (length-append, tree-views-long empty (m .tree), column-long segmentViews (pastTree m) (m .segments), keys-fill (nameKeys (m .extractor)), borrows-fill (m .borrows))
-    (omega arith)
-layout-long runs m =
-    rw (length-append, tree-runs-long empty (m .tree), column-long segmentRuns (pastTree m) (m .segments), keys-fill (nameKeys (m .extractor)), borrows-fill (m .borrows))
-    (omega arith)
-layout-long borrows m =
-    column-long borrowRows (pastName m) (m .borrows)
-    ∙ rw (tree-fill (m .tree), segments-fill (m .segments), keys-fill (nameKeys (m .extractor))) (omega arith)
-layout-long ids m =
-    ap length (sym (laid-joined borrowFill borrowIds empty (m .borrows))) ∙ column-long borrowIdRows empty (m .borrows)
-    ∙ rw (tree-fill (m .tree), segments-fill (m .segments), keys-fill (nameKeys (m .extractor))) (omega arith)
-layout-long pool m =
-    simp (length-append, tree-bytes-long (m .tree), segments-fill (m .segments), keys-fill (nameKeys (m .extractor)), borrows-fill (m .borrows))
-    (omega arith)
+layout-long t m = ap (λ (k : Lent). length (tableOf t k)) (sym (layout-front m)) ∙ layout-at-long t empty m
 
 -- ---- the new manifest takes no place at all
 

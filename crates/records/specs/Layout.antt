@@ -157,30 +157,46 @@ pastSegments m = plus (pastTree m) (sum segmentFill (m .segments))
 abbrev pub pastName : Manifest → Fill
 pastName m = plus (pastSegments m) (sum keyFill (nameKeys (m .extractor)))
 
-unfoldable pub manifestRow : Manifest → ManifestRow
-manifestRow m =
+-- the row of a manifest that is laid out from c on, its name from byte `name` on
+abbrev pub rowFrom : Fill → ℕ → Manifest → ManifestRow
+rowFrom c name m =
     record {
       initialized = m .initialized;
-      tree = treeRow empty (m .tree);
-      segments = record { first = 0; count = length (m .segments) };
-      «segment_extractor_name» = nameRow (pastSegments m .bytes) (m .extractor);
+      tree = treeRow c (m .tree);
+      segments = record { first = c .segments; count = length (m .segments) };
+      «segment_extractor_name» = nameRow name (m .extractor);
       «next_wal_sst_id» = m .nextWalSstId;
       «replay_after_wal_id» = m .replayAfterWalId;
       «last_l0_clock_tick» = m .lastL0ClockTick;
       «last_l0_seq» = m .lastL0Seq;
       «recent_snapshot_min_seq» = m .recentSnapshotMinSeq;
-      «external_dbs» = record { first = 0; count = length (m .borrows) };
+      «external_dbs» = record { first = c .borrows; count = length (m .borrows) };
       «writer_epoch» = m .writerEpoch;
       «compactor_epoch» = m .compactorEpoch;
     }
 
-unfoldable pub layout : Manifest → Lent
-layout m =
+-- its words and bytes: the tree from c on, the segments from d, the borrows from e
+abbrev pub laidFrom : Fill → Fill → Fill → Manifest → Lent
+laidFrom c d e m =
     record {
-      segments = segmentsLaid (pastTree m) (m .segments);
-      views = treeViewsLaid empty (m .tree) ++ segmentsViewsLaid (pastTree m) (m .segments);
-      runs = treeRunsLaid empty (m .tree) ++ segmentsRunsLaid (pastTree m) (m .segments);
-      borrows = borrowsLaid (pastName m) (m .borrows);
+      segments = segmentsLaid d (m .segments);
+      views = treeViewsLaid c (m .tree) ++ segmentsViewsLaid d (m .segments);
+      runs = treeRunsLaid c (m .tree) ++ segmentsRunsLaid d (m .segments);
+      borrows = borrowsLaid e (m .borrows);
       ids = joined borrowIds (m .borrows);
       pool = treeBytes (m .tree) ++ (joined segmentBytes (m .segments) ++ (run (nameKeys (m .extractor)) ++ joined borrowPath (m .borrows)));
     }
+
+-- at the front of the tables
+unfoldable pub manifestRow : Manifest → ManifestRow
+manifestRow m = rowFrom empty (pastSegments m .bytes) m
+
+unfoldable pub layout : Manifest → Lent
+layout m = laidFrom empty (pastTree m) (pastName m) m
+
+-- behind what fills c, where the same tables hold several manifests
+unfoldable pub manifestRowAt : Fill → Manifest → ManifestRow
+manifestRowAt c m = rowFrom c (c .bytes + pastSegments m .bytes) m
+
+unfoldable pub layoutAt : Fill → Manifest → Lent
+layoutAt c m = laidFrom c (plus c (pastTree m)) (plus c (pastName m)) m

@@ -1,6 +1,8 @@
 use denote.Ref.{now}
+use mathlib.Core.Path.{_∙_}
 use Rattle.records.specs.Decode.{Lent}
-use Rattle.copy.proofs.Answers.{copy-broken, copy-no-room, copy-fits, copy-done}
+use Rattle.copy.specs.Copy.{roomOf}
+use Rattle.copy.proofs.Answers.{empty-fits, copy-front}
 use borrow.Author.Needs.{needs}
 use Rattle.copy.proofs.canonical_copy.Statement.{statement}
 use Rattle.copy.proofs.canonical_copy.Tie as tie
@@ -9,17 +11,11 @@ pub canonical-copy-spec : {M : Type 1} → statement M
 canonical-copy-spec =
     tie.close
     (tie.spec
-    (λ c κs. search needs)  -- measure-requires
-    (λ c. search needs)  -- enum-told
-    (λ c. search needs)  -- enum-known-f
-    (λ c κs. search needs)  -- no-room-requires
-    (λ c. let a = c .before .before .before .before .before .before .before .before .before .before .before .before .before .before .before .before .before .before .args in let x : Lent = record { segments = now (a .segments); views = now (a .views); runs = now (a .runs); borrows = now (a .borrows); ids = now (a .ids); pool = now (a .pool) } in let o : Lent = record { segments = now (a .out-segments); views = now (a .out-views); runs = now (a .out-runs); borrows = now (a .out-borrows); ids = now (a .out-ids); pool = now (a .out-pool) } in copy-no-room (a .lim) x (a .m) o _ (c .before .before .before .before .before .measure .ensures) _ (c .before .before .before .f .given .1) _ (c .before .no-room .ensures) (c .if1 .taken))  -- returns
-    (λ c κs. let a = c .before .before .before .before .before .before .before .before .before .before .before .before .before .before .before .before .before .before .before .before .before .before .before .before .args in let x : Lent = record { segments = now (a .segments); views = now (a .views); runs = now (a .runs); borrows = now (a .borrows); ids = now (a .ids); pool = now (a .pool) } in let o : Lent = record { segments = now (a .out-segments); views = now (a .out-views); runs = now (a .out-runs); borrows = now (a .out-borrows); ids = now (a .out-ids); pool = now (a .out-pool) } in copy-fits (a .lim) x (a .m) o _ (c .before .before .before .before .before .before .before .before .before .before .before .measure .ensures) _ (c .before .before .before .before .before .before .before .before .before .f .given .1) _ (c .before .before .before .before .before .before .before .no-room .ensures) (c .before .before .before .before .before .before .if1 .left))  -- put-manifest-requires
-    (λ c. let a = c .before .before .before .before .before .before .before .before .before .before .before .before .before .before .before .args in let x : Lent = record { segments = now (a .segments); views = now (a .views); runs = now (a .runs); borrows = now (a .borrows); ids = now (a .ids); pool = now (a .pool) } in let o : Lent = record { segments = now (a .out-segments); views = now (a .out-views); runs = now (a .out-runs); borrows = now (a .out-borrows); ids = now (a .out-ids); pool = now (a .out-pool) } in copy-broken (a .lim) x (a .m) o _ (c .before .before .measure .ensures) (c .enum-told .given .1))  -- returns-2
-    (λ c. search needs)  -- same-length
-    (λ c. search needs)  -- same-length-2
-    (λ c. search needs)  -- same-length-3
-    (λ c. search needs)  -- same-length-4
-    (λ c. search needs)  -- same-length-5
-    (λ c. search needs)  -- same-length-6
-    (λ c. let a = c .before .before .before .before .before .before .before .before .before .before .before .before .before .before .before .before .before .before .before .before .before .before .before .before .before .before .before .before .before .before .before .before .before .before .before .before .before .args in let x : Lent = record { segments = now (a .segments); views = now (a .views); runs = now (a .runs); borrows = now (a .borrows); ids = now (a .ids); pool = now (a .pool) } in let o : Lent = record { segments = now (a .out-segments); views = now (a .out-views); runs = now (a .out-runs); borrows = now (a .out-borrows); ids = now (a .out-ids); pool = now (a .out-pool) } in let e = c .before .before .before .before .before .before .before .before .before .before .before .before .put-manifest .ensures in rw (e .0, e .1 .0, e .1 .1 .0, e .1 .1 .1 .0, e .1 .1 .1 .1 .0, e .1 .1 .1 .1 .1 .0, e .1 .1 .1 .1 .1 .1) (copy-done (a .lim) x (a .m) o _ (c .before .before .before .before .before .before .before .before .before .before .before .before .before .before .before .before .before .before .before .before .before .before .before .before .measure .ensures) _ (c .before .before .before .before .before .before .before .before .before .before .before .before .before .before .before .before .before .before .before .before .before .before .f .given .1) _ (c .before .before .before .before .before .before .before .before .before .before .before .before .before .before .before .before .before .before .before .before .no-room .ensures) (c .before .before .before .before .before .before .before .before .before .before .before .before .before .before .before .before .before .before .before .if1 .left))))  -- returns-3
+    (λ c κs. let a = c .before .before .before .before .before .before .before .before .before .before .before .before .before .before .before .before .before .before .args in let o : Lent = record { segments = now (a .out-segments); views = now (a .out-views); runs = now (a .out-runs); borrows = now (a .out-borrows); ids = now (a .out-ids); pool = now (a .out-pool) } in empty-fits (roomOf o))
+    (λ c. search needs)
+    (λ c. search needs)
+    (λ c. search needs)
+    (λ c. search needs)
+    (λ c. search needs)
+    (λ c. search needs)
+    (λ c. let a = c .before .before .before .before .before .before .before .before .before .before .before .before .before .before .before .before .before .before .before .before .before .before .before .before .before .before .before .before .before .before .before .args in let x : Lent = record { segments = now (a .segments); views = now (a .views); runs = now (a .runs); borrows = now (a .borrows); ids = now (a .ids); pool = now (a .pool) } in let o : Lent = record { segments = now (a .out-segments); views = now (a .out-views); runs = now (a .out-runs); borrows = now (a .out-borrows); ids = now (a .out-ids); pool = now (a .out-pool) } in c .before .before .before .before .before .before .before .before .before .before .before .before .copy-at .ensures ∙ copy-front (a .lim) x (a .m) o))

@@ -6,7 +6,7 @@ use Rattle.tables.specs.Layout.{joined}
 use Rattle.keys.proofs.Says.{says-true}
 use Rattle.records.specs.Decode.{Lent, manifestIn}
 use Rattle.records.specs.Fill.{plus, sum, keyFill, nameKeys, borrowFill, manifestFill}
-use Rattle.records.specs.Layout.{run, borrowIds, borrowPath, layout}
+use Rattle.records.specs.Layout.{run, borrowIds, borrowPath, layoutAt}
 use Rattle.measure.proofs.Fits.{says-fits}
 use Rattle.records.proofs.Laid.{borrows, ids, pool}
 use Rattle.copy.specs.Copy.{roomOf}
@@ -16,19 +16,19 @@ use Rattle.copy.proofs.put_manifest.Statement.{statement}
 use Rattle.copy.proofs.put_manifest.Tie as tie
 
 pub put-manifest-spec : {M : Type 1} → statement M
-unfolding manifestIn manifestFill layout
+unfolding manifestIn manifestFill layoutAt
 put-manifest-spec =
     tie.close
     (tie.spec
-    (λ c κs. let a = c .before .before .before .before .before .before .before .before .before .before .before .before .before .before .before .before .before .before .before .args in let x : Lent = record { segments = now (a .segments); views = now (a .views); runs = now (a .runs); borrows = now (a .borrows); ids = now (a .ids); pool = now (a .pool) } in let m = manifestIn x (a .m) in let o : Lent = record { segments = now (a .out-segments); views = now (a .out-views); runs = now (a .out-runs); borrows = now (a .out-borrows); ids = now (a .out-ids); pool = now (a .out-pool) } in let u = says-true (says-fits (manifestFill m) (roomOf o)) (c .before .before .before .before .before .before .before .before .before .before .before .before .before .before .before .before .before .before .before .pre) in (omega (arith, u .segments), (omega (arith, u .runs), (omega (arith, u .views), omega (arith, u .bytes)))))  -- put-trees-requires
-    (λ c κs. let a = c .before .before .before .before .before .before .before .before .before .before .before .before .before .before .before .before .before .before .before .before .before .before .before .before .before .before .before .before .before .before .before .before .before .args in let x : Lent = record { segments = now (a .segments); views = now (a .views); runs = now (a .runs); borrows = now (a .borrows); ids = now (a .ids); pool = now (a .pool) } in let m = manifestIn x (a .m) in let o : Lent = record { segments = now (a .out-segments); views = now (a .out-views); runs = now (a .out-runs); borrows = now (a .out-borrows); ids = now (a .out-ids); pool = now (a .out-pool) } in let u = says-true (says-fits (manifestFill m) (roomOf o)) (c .before .before .before .before .before .before .before .before .before .before .before .before .before .before .before .before .before .before .before .before .before .before .before .before .before .before .before .before .before .before .before .before .before .pre) in let e = c .before .before .before .before .before .before .before .before .before .before .before .before .before .put-trees .ensures .0 in let g = plus (sum keyFill (nameKeys (m .extractor))) (sum borrowFill (m .borrows)) in (rest-room (m .tree) (m .segments) _ e borrows g _ (omega (arith, u .borrows)), (rest-room (m .tree) (m .segments) _ e ids g _ (omega (arith, u .ids)), omega (arith, c .before .before .before .before .before .before .before .before .before .before .before .before .before .put-trees .kept, rest-room (m .tree) (m .segments) _ e pool g (length (now (a .out-pool))) (omega (arith, u .bytes))))))  -- put-rest-requires
-    (λ c κs. search needs)  -- held-requires
-    (λ c κs. search needs)  -- held-requires-2
-    (λ c κs. search needs)  -- manifest-row-requires
-    (λ c. omega (arith, c .before .before .before .before .before .before .before .before .before .before .before .before .before .before .before .before .before .before .before .before .before .before .before .put-trees .kept))  -- same-length
-    (λ c. omega (arith, c .before .before .before .before .before .before .before .before .before .before .before .before .before .before .before .before .before .before .before .before .before .before .before .put-trees .kept))  -- same-length-2
-    (λ c. omega (arith, c .before .before .before .before .before .before .before .before .before .before .before .before .before .before .before .before .before .before .before .before .before .before .before .put-trees .kept))  -- same-length-3
-    (λ c. search needs)  -- same-length-4
-    (λ c. search needs)  -- same-length-5
-    (λ c. omega (arith, c .before .before .before .before .before .before .before .before .before .before .before .before .before .before .before .before .before .before .before .before .before .before .before .put-trees .kept, c .before .before .before .before .before .before .before .before .before .put-rest .kept))  -- same-length-6
-    (λ c. let a = c .before .before .before .before .before .before .before .before .before .before .before .before .before .before .before .before .before .before .before .before .before .before .before .before .before .before .before .before .before .before .before .before .before .before .before .before .before .before .before .before .before .before .before .args in let x : Lent = record { segments = now (a .segments); views = now (a .views); runs = now (a .runs); borrows = now (a .borrows); ids = now (a .ids); pool = now (a .pool) } in let m = manifestIn x (a .m) in let e = c .before .before .before .before .before .before .before .before .before .before .before .before .before .before .before .before .before .before .before .before .before .before .before .put-trees .ensures .0 in let v = c .before .before .before .before .before .before .before .before .before .before .before .before .before .before .before .before .before .before .before .before .before .before .before .put-trees .ensures .1 in let w = c .before .before .before .before .before .before .before .before .before .put-rest .ensures in (manifest-laid x (a .m) _ _ _ _ _ e (w .0) (c .before .before .held .ensures) (c .before .held2 .ensures) (c .manifest-row .ensures), (v .0, (v .1 .1 .0, (v .1 .0, (whole-borrows (m .tree) (m .segments) _ e _ _ [] (sum keyFill (nameKeys (m .extractor))) (m .borrows) (w .1 .0), (whole-ids (m .tree) (m .segments) _ e _ _ [] (joined borrowIds (m .borrows)) (w .1 .1 .0), whole-bytes (m .tree) (m .segments) _ e _ _ _ (run (nameKeys (m .extractor)) ++ joined borrowPath (m .borrows)) (v .1 .1 .1) (w .1 .1 .1)))))))))  -- returns
+    (λ c κs. let a = c .before .before .before .before .before .before .before .before .before .before .before .before .before .before .before .before .before .before .before .args in let x : Lent = record { segments = now (a .segments); views = now (a .views); runs = now (a .runs); borrows = now (a .borrows); ids = now (a .ids); pool = now (a .pool) } in let m = manifestIn x (a .m) in let o : Lent = record { segments = now (a .out-segments); views = now (a .out-views); runs = now (a .out-runs); borrows = now (a .out-borrows); ids = now (a .out-ids); pool = now (a .out-pool) } in let u = says-true (says-fits (plus (a .c) (manifestFill m)) (roomOf o)) (c .before .before .before .before .before .before .before .before .before .before .before .before .before .before .before .before .before .before .before .pre) in (omega (arith, u .segments), (omega (arith, u .runs), (omega (arith, u .views), omega (arith, u .bytes)))))
+    (λ c κs. let a = c .before .before .before .before .before .before .before .before .before .before .before .before .before .before .before .before .before .before .before .before .before .before .before .before .before .before .before .before .before .before .before .before .before .args in let x : Lent = record { segments = now (a .segments); views = now (a .views); runs = now (a .runs); borrows = now (a .borrows); ids = now (a .ids); pool = now (a .pool) } in let m = manifestIn x (a .m) in let o : Lent = record { segments = now (a .out-segments); views = now (a .out-views); runs = now (a .out-runs); borrows = now (a .out-borrows); ids = now (a .out-ids); pool = now (a .out-pool) } in let u = says-true (says-fits (plus (a .c) (manifestFill m)) (roomOf o)) (c .before .before .before .before .before .before .before .before .before .before .before .before .before .before .before .before .before .before .before .before .before .before .before .before .before .before .before .before .before .before .before .before .before .pre) in let e = c .before .before .before .before .before .before .before .before .before .before .before .before .before .put-trees .ensures .0 in let g = plus (sum keyFill (nameKeys (m .extractor))) (sum borrowFill (m .borrows)) in (rest-room (a .c) (m .tree) (m .segments) _ e borrows g _ (omega (arith, u .borrows)), (rest-room (a .c) (m .tree) (m .segments) _ e ids g _ (omega (arith, u .ids)), omega (arith, c .before .before .before .before .before .before .before .before .before .before .before .before .before .put-trees .kept, rest-room (a .c) (m .tree) (m .segments) _ e pool g (length (now (a .out-pool))) (omega (arith, u .bytes))))))
+    (λ c κs. search needs)
+    (λ c κs. search needs)
+    (λ c κs. search needs)
+    (λ c. omega (arith, c .before .before .before .before .before .before .before .before .before .before .before .before .before .before .before .before .before .before .before .before .before .before .before .put-trees .kept))
+    (λ c. omega (arith, c .before .before .before .before .before .before .before .before .before .before .before .before .before .before .before .before .before .before .before .before .before .before .before .put-trees .kept))
+    (λ c. omega (arith, c .before .before .before .before .before .before .before .before .before .before .before .before .before .before .before .before .before .before .before .before .before .before .before .put-trees .kept))
+    (λ c. search needs)
+    (λ c. search needs)
+    (λ c. omega (arith, c .before .before .before .before .before .before .before .before .before .before .before .before .before .before .before .before .before .before .before .before .before .before .before .put-trees .kept, c .before .before .before .before .before .before .before .before .before .put-rest .kept))
+    (λ c. let a = c .before .before .before .before .before .before .before .before .before .before .before .before .before .before .before .before .before .before .before .before .before .before .before .before .before .before .before .before .before .before .before .before .before .before .before .before .before .before .before .before .before .before .before .args in let x : Lent = record { segments = now (a .segments); views = now (a .views); runs = now (a .runs); borrows = now (a .borrows); ids = now (a .ids); pool = now (a .pool) } in let m = manifestIn x (a .m) in let o : Lent = record { segments = now (a .out-segments); views = now (a .out-views); runs = now (a .out-runs); borrows = now (a .out-borrows); ids = now (a .out-ids); pool = now (a .out-pool) } in let u = says-true (says-fits (plus (a .c) (manifestFill m)) (roomOf o)) (c .before .before .before .before .before .before .before .before .before .before .before .before .before .before .before .before .before .before .before .before .before .before .before .before .before .before .before .before .before .before .before .before .before .before .before .before .before .before .before .before .before .before .before .pre) in let e = c .before .before .before .before .before .before .before .before .before .before .before .before .before .before .before .before .before .before .before .before .before .before .before .put-trees .ensures .0 in let v = c .before .before .before .before .before .before .before .before .before .before .before .before .before .before .before .before .before .before .before .before .before .before .before .put-trees .ensures .1 in let w = c .before .before .before .before .before .before .before .before .before .put-rest .ensures in (manifest-laid x (a .m) (a .c) _ _ _ _ _ e (w .0) (c .before .before .held .ensures) (c .before .held2 .ensures) (c .manifest-row-at .ensures), (v .0, (v .1 .1 .0, (v .1 .0, (whole-borrows (a .c) (m .tree) (m .segments) _ e _ _ [] (sum keyFill (nameKeys (m .extractor))) (m .borrows) (w .1 .0), (whole-ids (a .c) (m .tree) (m .segments) _ e _ _ [] (joined borrowIds (m .borrows)) (w .1 .1 .0), whole-bytes (a .c) (m .tree) (m .segments) _ e _ _ _ (manifestFill m) (run (nameKeys (m .extractor)) ++ joined borrowPath (m .borrows)) (u .bytes) (v .1 .1 .1) (w .1 .1 .1)))))))))

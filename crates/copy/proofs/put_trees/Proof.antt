@@ -5,7 +5,8 @@ use lib.ListN.{length}
 use Rattle.records.specs.Decode.{treeIn, segmentsIn}
 use Rattle.records.specs.Fill.{plus, sum, treeFill, segmentFill}
 use Rattle.records.proofs.Laid.{segments, runs, views, pool}
-use Rattle.copy.proofs.Manifest.{trees-room, trees-laid, trees-segments, trees-runs, trees-views, trees-bytes}
+use Rattle.emit.proofs.Laid.{room-rest}
+use Rattle.copy.proofs.Manifest.{tree-past, trees-laid, trees-segments, trees-runs, trees-views, trees-bytes}
 use borrow.Author.Needs.{needs}
 use Rattle.copy.proofs.put_trees.Statement.{statement}
 use Rattle.copy.proofs.put_trees.Tie as tie
@@ -14,10 +15,10 @@ pub put-trees-spec : {M : Type 1} → statement M
 put-trees-spec =
     tie.close
     (tie.spec
-    (λ c κs. search needs)  -- put-tree-requires
-    (λ c κs. let a = c .before .before .before .before .before .before .before .before .before .before .before .before .before .before .before .before .before .before .before .before .before .before .before .before .args in let t = treeIn (now (a .runs)) (now (a .views)) (now (a .pool)) (a .t) in let ss = segmentsIn (now (a .segments)) (now (a .runs)) (now (a .views)) (now (a .pool)) (a .w) in let e = c .before .before .before .before .before .before .before .before .before .before .before .before .put-tree .ensures .0 in let g = sum segmentFill ss in let p = c .before .before .before .before .before .before .before .before .before .before .before .before .before .before .before .before .before .before .before .before .before .before .before .before .pre in let k = c .before .before .before .before .before .before .before .before .before .before .before .before .put-tree .kept in (trees-room t ss _ e segments g _ (p .0), (omega (arith, k, trees-room t ss _ e runs g (length (now (a .out-runs))) (p .1 .0)), (omega (arith, k, trees-room t ss _ e views g (length (now (a .out-views))) (p .1 .1 .0)), omega (arith, k, trees-room t ss _ e pool g (length (now (a .out-pool))) (p .1 .1 .1))))))  -- put-segments-requires
-    (λ c. search needs)  -- same-length
-    (λ c. search needs)  -- same-length-2
-    (λ c. search needs)  -- same-length-3
-    (λ c. search needs)  -- same-length-4
-    (λ c. let a = c .before .before .before .before .before .before .before .before .before .before .before .before .before .before .before .before .before .before .before .before .before .before .before .before .before .before .before .before .before .before .before .before .before .args in let t = treeIn (now (a .runs)) (now (a .views)) (now (a .pool)) (a .t) in let ss = segmentsIn (now (a .segments)) (now (a .runs)) (now (a .views)) (now (a .pool)) (a .w) in let e = c .before .before .before .before .before .before .before .before .before .before .before .before .before .before .before .before .before .before .before .before .before .put-tree .ensures .0 in let w = c .before .before .before .before .before .before .before .before .before .before .before .before .before .before .before .before .before .before .before .before .before .put-tree .ensures .1 in let v = c .before .before .before .before .before .before .before .before .put-segments .ensures in let p = c .before .before .before .before .before .before .before .before .before .before .before .before .before .before .before .before .before .before .before .before .before .before .before .before .before .before .before .before .before .before .before .before .before .pre in let f = plus (treeFill t) (sum segmentFill ss) in (trees-laid t ss _ e _ (v .0), (trees-segments t ss _ e _ _ [] (v .1 .0), (trees-runs t ss _ e _ _ _ f (omega (arith, p .1 .0)) (w .0) (v .1 .1 .0), (trees-views t ss _ e _ _ _ f (omega (arith, p .1 .1 .0)) (w .1 .0) (v .1 .1 .1 .0), trees-bytes t ss _ e _ _ _ f (omega (arith, p .1 .1 .1)) (w .1 .1) (v .1 .1 .1 .1)))))))  -- returns
+    (λ c κs. search needs)
+    (λ c κs. let a = c .before .before .before .before .before .before .before .before .before .before .before .before .before .before .before .before .before .before .before .before .before .before .before .before .args in let t = treeIn (now (a .runs)) (now (a .views)) (now (a .pool)) (a .t) in let ss = segmentsIn (now (a .segments)) (now (a .runs)) (now (a .views)) (now (a .pool)) (a .w) in let e = c .before .before .before .before .before .before .before .before .before .before .before .before .put-tree .ensures .0 in let p = c .before .before .before .before .before .before .before .before .before .before .before .before .before .before .before .before .before .before .before .before .before .before .before .before .pre in let f = treeFill t in let g = sum segmentFill ss in let q = tree-past (a .c) t ss _ e in let k = c .before .before .before .before .before .before .before .before .before .before .before .before .put-tree .kept in (room-rest segments (a .c) f _ g _ q (p .0), (omega (arith, k, room-rest runs (a .c) f _ g (length (now (a .out-runs))) q (p .1 .0)), (omega (arith, k, room-rest views (a .c) f _ g (length (now (a .out-views))) q (p .1 .1 .0)), omega (arith, k, room-rest pool (a .c) f _ g (length (now (a .out-pool))) q (p .1 .1 .1))))))
+    (λ c. search needs)
+    (λ c. search needs)
+    (λ c. search needs)
+    (λ c. search needs)
+    (λ c. let a = c .before .before .before .before .before .before .before .before .before .before .before .before .before .before .before .before .before .before .before .before .before .before .before .before .before .before .before .before .before .before .before .before .before .args in let t = treeIn (now (a .runs)) (now (a .views)) (now (a .pool)) (a .t) in let ss = segmentsIn (now (a .segments)) (now (a .runs)) (now (a .views)) (now (a .pool)) (a .w) in let e = c .before .before .before .before .before .before .before .before .before .before .before .before .before .before .before .before .before .before .before .before .before .put-tree .ensures .0 in let p = c .before .before .before .before .before .before .before .before .before .before .before .before .before .before .before .before .before .before .before .before .before .before .before .before .before .before .before .before .before .before .before .before .before .pre in let w = c .before .before .before .before .before .before .before .before .before .before .before .before .before .before .before .before .before .before .before .before .before .put-tree .ensures .1 in let v = c .before .before .before .before .before .before .before .before .put-segments .ensures in let f = plus (treeFill t) (sum segmentFill ss) in (trees-laid (a .c) t ss _ e _ (v .0), (trees-segments (a .c) t ss _ e _ _ [] (v .1 .0), (trees-runs (a .c) t ss _ e _ _ _ f (p .1 .0) (w .0) (v .1 .1 .0), (trees-views (a .c) t ss _ e _ _ _ f (p .1 .1 .0) (w .1 .0) (v .1 .1 .1 .0), trees-bytes (a .c) t ss _ e _ _ _ f (p .1 .1 .1) (w .1 .1) (v .1 .1 .1 .1)))))))

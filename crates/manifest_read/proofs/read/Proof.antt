@@ -1,84 +1,57 @@
-use mathlib.Core.Path.{sym, _∙_}
-use borrow.Author.Tests.{lt-ltb, le-ltb}
-use Rattle.manifest_read.specs.Answer.{readOf}
-use borrow.Author.Needs.{needs}
+use denote.Ref.{now}
+use native.Mathlib.Omega.{arith}
+use mathlib.Core.Path.{_∙_}
+use Rattle.records.specs.Decode.{Lent}
+use Rattle.copy.specs.Copy.{roomOf}
+use Rattle.copy.proofs.Answers.{empty-fits}
+use Rattle.manifest_read.proofs.Answers.{read-front}
 use Rattle.manifest_read.proofs.read.Statement.{statement}
 use Rattle.manifest_read.proofs.read.Tie as tie
 
-returns : tie.Need-returns
-unfolding readOf
-returns c = rw (lt-ltb _ _ (c .if1 .taken))
-
-fits-in-requires : tie.Need-fits-in-requires
-fits-in-requires c κs = search needs
-
-well-formed-requires : tie.Need-well-formed-requires
-well-formed-requires c κs = search needs
-
-enum-told : tie.Need-enum-told
-enum-told c = search needs
-
-read-rows-requires : tie.Need-read-rows-requires
-read-rows-requires c κs = sym (c .before .before .before .before .before .before .before .before .before .before .before .before .before .before .before .fits-in .ensures) ∙ c .before .before .before .before .before .before .before .before .before .before .before .before .before .before .if2 .taken
-
-enum-known-w : tie.Need-enum-known-w
-enum-known-w c = search needs
+read-at-requires : tie.Need-read-at-requires
+read-at-requires c κs = let a = c .before .before .before .before .before .before .before .before .before .before .before .before .before .before .before .before .before .before .before .before .before .before .before .args in let o : Lent = record { segments = now (a .out-segments); views = now (a .out-views); runs = now (a .out-runs); borrows = now (a .out-borrows); ids = now (a .out-ids); pool = now (a .out-pool) } in empty-fits (roomOf o)
 
 same-length : tie.Need-same-length
-same-length c = search needs
+same-length c = omega (arith, c .before .before .before .before .before .before .before .before .before .before .before .before .before .before .before .before .before .before .before .before .before .before .read-at .kept)
 
 same-length-2 : tie.Need-same-length-2
-same-length-2 c = search needs
+same-length-2 c = omega (arith, c .before .before .before .before .before .before .before .before .before .before .before .before .before .before .before .before .before .before .before .before .before .before .read-at .kept)
 
 same-length-3 : tie.Need-same-length-3
-same-length-3 c = search needs
+same-length-3 c = omega (arith, c .before .before .before .before .before .before .before .before .before .before .before .before .before .before .before .before .before .before .before .before .before .before .read-at .kept)
 
 same-length-4 : tie.Need-same-length-4
-same-length-4 c = search needs
+same-length-4 c = omega (arith, c .before .before .before .before .before .before .before .before .before .before .before .before .before .before .before .before .before .before .before .before .before .before .read-at .kept)
 
 same-length-5 : tie.Need-same-length-5
-same-length-5 c = search needs
+same-length-5 c = omega (arith, c .before .before .before .before .before .before .before .before .before .before .before .before .before .before .before .before .before .before .before .before .before .before .read-at .kept)
 
 same-length-6 : tie.Need-same-length-6
-same-length-6 c = search needs
+same-length-6 c = omega (arith, c .before .before .before .before .before .before .before .before .before .before .before .before .before .before .before .before .before .before .before .before .before .before .read-at .kept)
 
 same-length-7 : tie.Need-same-length-7
-same-length-7 c = search needs
+same-length-7 c = omega (arith, c .before .before .before .before .before .before .before .before .before .before .before .before .before .before .before .before .before .before .before .before .before .before .read-at .kept)
 
 same-length-8 : tie.Need-same-length-8
-same-length-8 c = search needs
+same-length-8 c = omega (arith, c .before .before .before .before .before .before .before .before .before .before .before .before .before .before .before .before .before .before .before .before .before .before .read-at .kept)
 
 same-length-9 : tie.Need-same-length-9
-same-length-9 c = search needs
+same-length-9 c = omega (arith, c .before .before .before .before .before .before .before .before .before .before .before .before .before .before .before .before .before .before .before .before .before .before .read-at .kept)
 
 same-length-10 : tie.Need-same-length-10
-same-length-10 c = search needs
+same-length-10 c = omega (arith, c .before .before .before .before .before .before .before .before .before .before .before .before .before .before .before .before .before .before .before .before .before .before .read-at .kept)
 
 same-length-11 : tie.Need-same-length-11
-same-length-11 c = search needs
+same-length-11 c = omega (arith, c .before .before .before .before .before .before .before .before .before .before .before .before .before .before .before .before .before .before .before .before .before .before .read-at .kept)
 
-returns-2 : tie.Need-returns-2
-unfolding readOf
-returns-2 c = rw (le-ltb _ _ (c .before .before .before .before .before .before .before .before .before .before .before .before .before .before .before .before .before .before .before .before .before .before .before .before .before .before .before .before .before .before .before .before .before .before .before .before .before .before .before .before .if1 .left), sym (c .before .before .before .before .before .before .before .before .before .before .before .before .before .before .before .before .before .before .before .before .before .before .before .before .before .before .before .before .before .before .before .before .before .before .before .before .before .before .fits-in .ensures) ∙ c .before .before .before .before .before .before .before .before .before .before .before .before .before .before .before .before .before .before .before .before .before .before .before .before .before .before .before .before .before .before .before .before .before .before .before .before .before .if2 .taken, sym (c .before .before .before .before .before .before .before .before .before .before .before .before .before .before .before .before .before .before .before .before .before .before .before .before .before .before .before .before .before .before .before .before .before .before .before .before .well-formed .ensures) ∙ c .before .before .before .before .before .before .before .before .before .before .before .before .before .before .before .before .before .before .before .before .before .before .before .before .before .before .before .before .before .before .before .before .before .before .enum-told .given .1) (c .before .before .before .before .before .before .before .before .before .before .before .before .before .before .before .before .before .before .before .before .before .before .read-rows .ensures)
-
-returns-3 : tie.Need-returns-3
-unfolding readOf
-returns-3 c = rw (le-ltb _ _ (c .before .before .before .before .before .before .before .if1 .left), sym (c .before .before .before .before .before .fits-in .ensures) ∙ c .before .before .before .before .if2 .taken, sym (c .before .before .before .well-formed .ensures) ∙ c .before .w .given .1)
-
-returns-4 : tie.Need-returns-4
-unfolding readOf
-returns-4 c = rw (le-ltb _ _ (c .before .before .before .if1 .left), sym (c .before .fits-in .ensures) ∙ c .if2 .left)
+returns : tie.Need-returns
+returns c = let a = c .before .before .before .before .before .before .before .before .before .before .before .before .before .before .before .before .before .before .before .before .before .before .before .before .before .before .before .before .before .before .before .before .before .before .before .before .before .before .before .before .before .before .before .before .before .before .args in let w : Lent = record { segments = now (a .segments); views = now (a .views); runs = now (a .runs); borrows = now (a .borrows); ids = now (a .ids); pool = now (a .s) } in let o : Lent = record { segments = now (a .out-segments); views = now (a .out-views); runs = now (a .out-runs); borrows = now (a .out-borrows); ids = now (a .out-ids); pool = now (a .out-pool) } in c .before .before .before .before .before .before .before .before .before .before .before .before .before .before .before .before .before .before .before .before .before .before .read-at .ensures ∙ read-front (a .lim) (now (a .s)) w o
 
 pub read-spec : {M : Type 1} → statement M
 read-spec =
     tie.close
     (tie.spec
-    returns
-    fits-in-requires
-    well-formed-requires
-    enum-told
-    read-rows-requires
-    enum-known-w
+    read-at-requires
     same-length
     same-length-2
     same-length-3
@@ -90,6 +63,4 @@ read-spec =
     same-length-9
     same-length-10
     same-length-11
-    returns-2
-    returns-3
-    returns-4)
+    returns)
