@@ -11,9 +11,8 @@ use Rattle.keys.specs.Says.{Says, holds, fails}
 use mathlib.Core.Logic.{⊎-elim}
 use Rattle.keys.specs.Key.{lessOf}
 use Rattle.keys.specs.Prefix.{Bytes, beginsOf}
-use Rattle.keys.specs.declared.Order.{Order}
 use Rattle.keys.proofs.Says.{says-true, says-false, true-says, says-same, says-not, says-lt, says-le}
-use Rattle.keys.proofs.ByteOrder.{Stand, stand, below-irrefl, either, upTo-not, says-less}
+use Rattle.keys.proofs.ByteOrder.{either, upTo-not, says-less}
 use Rattle.keys.proofs.Prefixes.{begins-refl, says-begins}
 use borrow.Author.Tests.{not-true}
 use Rattle.tables.specs.Layout.{joined}
@@ -25,20 +24,21 @@ use Rattle.records.specs.declared.Refusal.the-variants.{OverLimit, Nests, NoRoo
 use Rattle.records.specs.declared.Fill.{Fill}
 use Rattle.records.proofs.Sums.{plus-assoc, plus-comm}
 use Rattle.measure.specs.Tests.{allOf, chain, pairs}
-use Rattle.measure.specs.Within.{within, treeViews, treeRuns, allViews, allRuns}
+use Rattle.measure.specs.Within.{within, noRoom, treeViews, treeRuns, allViews, allRuns}
 use Rattle.measure.proofs.Lists.{and-assoc, and-comm, and-false, all-both}
 use Rattle.lawful.specs.Law.{l2Of, l3Of, viewLawful, l4Of, runLawful, l5Of}
 use Rattle.lawful.proofs.Apart.{Apart}
 use Rattle.lawful.proofs.Rules.{all-trees}
 use Rattle.segments.specs.Prefixes.{prefixes, prefixOf, leading}
 use Rattle.segments.specs.Refuses.{prefixOver}
-use Rattle.segments.specs.Lookup.{isEqual, sameOf, indexOf}
+use Rattle.segments.specs.Lookup.{sameOf, indexOf}
 use Rattle.segments.specs.Place.{placeOf, refuses3, conflictOf, apartFrom}
 use Rattle.segments.specs.Insert.{newSegment, withSegments, put, enteredIn, holdsOf, refuses4, found, entered, refused, insertedOf, afterEntry}
 use Rattle.history.specs.History.{Lawful, Call, replay, enters, afresh, Among, here, later, Same, none, more, BytesAll, beside, Kept}
 use Rattle.segments.proofs.Demand3.{chain-prefixes, all-prefixes, pairs-prefixes, manifest-apart}
 use Rattle.segments.proofs.Places.{and-both, place-leads}
 use Rattle.segments.proofs.Nests.{nests-is}
+use Rattle.insert.proofs.Held.{says-equal}
 
 module _ {A : Type 0} where
   -- ---- one more, put somewhere
@@ -71,14 +71,6 @@ module _ {A : Type 0} where
   same-refl (x ∷ xs) = more here (same-refl xs)
 
 -- ---- whether a prefix is held
-says-equal : (a b : List ℕ) → Says (a ≡ b) (sameOf a b)
-says-equal a b = go (stand a b)
-  where
-    go : {o : Order} → Stand a b o → Says (a ≡ b) (isEqual o)
-    go (Stand.less h) = fails (λ e. below-irrefl (rw e at h))
-    go (Stand.same e) = holds e
-    go (Stand.more h) = fails (λ e. below-irrefl (rw e at h))
-
 held-apart : (ps : List (List ℕ)) (p : List ℕ) → leading (λ q. not (sameOf q p)) ps < length ps → apartFrom ps p ≡ false
 held-apart [] p h = absurd (omega arith)
 held-apart (q ∷ ps) p h = go (says-equal q p) h (held-apart ps p)
@@ -194,8 +186,7 @@ module _ (lim : Limits) (m0 : Manifest) (ss ts : List Segment) (same : Same ss t
       (sum-among segmentFill (among-put (placeOf (prefixes ts) p) (newSegment p) ts) ∙ ap (λ (x : Fill). plus (segmentFill (newSegment p)) x) (sym (sum-same segmentFill same)))
 
   room-is : refuses4 lim room (withSegments m0 (enteredIn ts p)) ≡ refuses4 lim room (withSegments m0 (newSegment p ∷ ss))
-  unfolding refuses4
-  room-is = ap (λ (x : Fill). not (fits x (lim .fill) && fits x room)) fill-is
+  room-is = ap (λ (x : Fill). noRoom lim room x) fill-is
 
   near-is : (not (holdsOf (prefixes ts) p) && not (refuses3 (prefixes ts) p)) ≡ apartFrom (prefixes ts) p
   unfolding indexOf
@@ -235,7 +226,7 @@ module _ (lim : Limits) (m0 : Manifest) (ss ts : List Segment) (same : Same ss t
 
   module _ (short : leb (length p) (lim .prefix) ≡ true) (away : apartFrom (prefixes ts) p ≡ true) (fit : refuses4 lim room (withSegments m0 (enteredIn ts p)) ≡ false) where
     within-on : within lim (withSegments m0 (enteredIn ts p)) ≡ true
-    unfolding within refuses4 allViews
+    unfolding within noRoom allViews
     within-on =
         let w =
         five (fits (manifestFill (withSegments m0 ts)) (lim .fill)) (allOf (λ (s : Segment). leb (length (s .prefix)) (lim .prefix)) ts)

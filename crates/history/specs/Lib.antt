@@ -1,1 +1,2 @@
 pub mod History
+pub mod Tables

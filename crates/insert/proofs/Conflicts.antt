@@ -49,11 +49,11 @@ counted-most f (p ∷ ps) = go (f p) (counted-most f ps)
     go false h = omega arith
 
 module _ (segments pool : List ℕ) (w : Window) (p : List ℕ) (place : ℕ) (e : place ≡ placeOf (prefixesIn segments pool w) p) where
-  row-is : (i : ℕ) → i < heldOf w (length segments / 12) → prefixOf (prefixesIn segments pool w) i ≡ prefixAt segments pool (w .first + i)
+  pub row-is : (i : ℕ) → i < heldOf w (length segments / 12) → prefixOf (prefixesIn segments pool w) i ≡ prefixAt segments pool (w .first + i)
   unfolding prefixesIn
   row-is i h = upTo-at (λ k. prefixAt segments pool (w .first + k)) (heldOf w (length segments / 12)) i h
 
-  most : place ≤ heldOf w (length segments / 12)
+  pub most : place ≤ heldOf w (length segments / 12)
   unfolding placeOf
   most = rw (e, ← in-length segments pool w) (counted-most (λ q. lessOf q p) (prefixesIn segments pool w))
 

@@ -202,7 +202,7 @@ bytes-at g b zero i = Bytes.none
 bytes-at g b (suc n) zero = rw (upTo-front g n) (b 0)
 bytes-at g b (suc n) (suc i) = rw (upTo-front g n) (bytes-at (λ k. g (suc k)) (λ k. b (suc k)) n i)
 
-bytes-in : (l : Lent) (m : ManifestRow) → Bytes (l .pool) → (i : ℕ) → Bytes (prefixOf (prefixes (manifestIn l m .segments)) i)
+pub bytes-in : (l : Lent) (m : ManifestRow) → Bytes (l .pool) → (i : ℕ) → Bytes (prefixOf (prefixes (manifestIn l m .segments)) i)
 unfolding prefixesIn
 bytes-in l m b i = rw (prefixes-in l m) (bytes-at (λ k. prefixAt (l .segments) (l .pool) (m .segments .first + k)) (λ k. bytes-part _ _ b) (heldOf (m .segments) (length (l .segments) / 12)) i)
 

@@ -1,5 +1,4 @@
 pub mod Answers
-pub mod Corners
 pub mod Demand3
 pub mod Fronts
 pub mod Nests

@@ -1,18 +1,19 @@
 -- Insert, on a manifest of the model.
 use Prim.Native.Nat.{ℕ, zero, suc}
-use mathlib.Core.Bool.{Bool, not, _&&_}
+use mathlib.Core.Bool.{Bool}
 use mathlib.Core.List.{List, [], _∷_}
 use lib.Dec.{ltb}
 use lib.ListN.{length}
 use Rattle.keys.specs.Pick.{pick}
 use Rattle.records.specs.Model.{Segment, Manifest}
 use Rattle.records.specs.New.{newTree}
-use Rattle.records.specs.Fill.{fits, manifestFill}
+use Rattle.records.specs.Fill.{manifestFill}
 use Rattle.records.specs.Refusals.{refusal}
 use Rattle.records.specs.declared.Fill.{Fill}
 use Rattle.records.specs.declared.Limits.{Limits}
 use Rattle.records.specs.declared.Refusal.{Refusal}
 use Rattle.records.specs.declared.Refusal.the-variants.{OverLimit, Nests, NoRoom}
+use Rattle.measure.specs.Within.{noRoom}
 use Rattle.segments.specs.Prefixes.{prefixes}
 use Rattle.segments.specs.Refuses.{prefixOver}
 use Rattle.segments.specs.Lookup.{indexOf}
@@ -54,8 +55,8 @@ abbrev pub holdsOf : List (List ℕ) → List ℕ → Bool
 holdsOf ps p = ltb (indexOf ps p) (length ps)
 
 -- "4 | result breaks a number in L1, or a lent output is too short"
-unfoldable pub refuses4 : Limits → Fill → Manifest → Bool
-refuses4 lim room m = not (fits (manifestFill m) (lim .fill) && fits (manifestFill m) room)
+abbrev pub refuses4 : Limits → Fill → Manifest → Bool
+refuses4 lim room m = noRoom lim room (manifestFill m)
 
 -- what insert answers
 pub data Entry : Type 0 where

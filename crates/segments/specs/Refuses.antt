@@ -1,9 +1,10 @@
--- When the refusals 1 and 2 are given.
+-- When the refusals 1, 2 and 5 are given.
 use Prim.Native.Nat.{ℕ}
 use mathlib.Core.Bool.{Bool, true, false, not, _||_}
 use mathlib.Core.List.{List}
 use lib.Dec.{ltb}
 use lib.ListN.{length}
+use Rattle.keys.specs.Range.{Edges, emptyOf}
 use Rattle.keys.specs.Pool.{insideOf}
 use Rattle.keys.specs.declared.Bound.{Bound}
 use Rattle.keys.specs.declared.Bound.the-variants.{Unbounded, Included, Excluded}
@@ -47,3 +48,7 @@ refuses1 lim l m = isBroken (judgedOf lim l m)
 
 abbrev pub firstBroken : Limits → Lent → ManifestRow → ℕ
 firstBroken lim l m = ruleOf (judgedOf lim l m)
+
+-- "5 | a range argument, own ranges apart, is empty"
+abbrev pub refuses5 : Edges → Bool
+refuses5 r = emptyOf (r .start) (r .end)

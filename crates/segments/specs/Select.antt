@@ -6,7 +6,7 @@ use lib.Dec.{ltb}
 use lib.ListN.{length}
 use Rattle.keys.specs.Pick.{pick}
 use Rattle.keys.specs.Prefix.{Bytes, Begins, underOf, after}
-use Rattle.keys.specs.Range.{Edge, Edges, In, low, top, emptyOf}
+use Rattle.keys.specs.Range.{Edge, Edges, In, low, top}
 use Rattle.keys.specs.Pool.{edgesOf}
 use Rattle.keys.specs.declared.Range.{Range}
 use Rattle.records.specs.Decode.{Lent, manifestIn}
@@ -15,7 +15,7 @@ use Rattle.records.specs.declared.Limits.{Limits}
 use Rattle.records.specs.declared.ManifestRow.{ManifestRow}
 use Rattle.records.specs.declared.Refusal.the-variants.{Unlawful, OverLimit, EmptyRange}
 use Rattle.segments.specs.Prefixes.{prefixes, leading}
-use Rattle.segments.specs.Refuses.{rangeOver, refuses1, firstBroken}
+use Rattle.segments.specs.Refuses.{rangeOver, refuses1, firstBroken, refuses5}
 use Rattle.segments.specs.declared.Selected.{Selected}
 use Rattle.segments.specs.declared.Selected.the-variants.{Unsegmented, Window, Refused}
 
@@ -50,16 +50,13 @@ unfoldable pub chosenOf : Edges → List (List ℕ) → Selected
 chosenOf r [] = Unsegmented
 chosenOf r (p ∷ ps) = windowOf (firstOf (r .start) (p ∷ ps)) (pastOf (r .end) (p ∷ ps))
 
--- "5 | a range argument .. is empty"; else the answer
-abbrev pub answered : Edges → List (List ℕ) → Selected
-answered r ps = pick (emptyOf (r .start) (r .end)) (Refused EmptyRange) (chosenOf r ps)
-
 -- the order of refusals: 2, 1, 5
 unfoldable pub selectedOf : Limits → Lent → ManifestRow → List ℕ → Range → Selected
 selectedOf lim l m args r =
     pick (rangeOver (lim .key) (length args) r) (Refused OverLimit)
     (pick (refuses1 lim l m) (Refused (Unlawful (firstBroken lim l m)))
-    (answered (edgesOf args r) (prefixes (manifestIn l m .segments))))
+    (pick (refuses5 (edgesOf args r)) (Refused EmptyRange)
+    (chosenOf (edgesOf args r) (prefixes (manifestIn l m .segments)))))
 
 -- segment i is one of the answer's: ""unsegmented", which demand 3 counts as no segment"
 abbrev pub Holds : ℕ → Selected → Type 0

@@ -51,7 +51,8 @@ pub enum Selected {
 // ---- lookup
 
 // Whether the prefix of row `i` is another than `prefix`.
-fn is_other(segments: &[u64], pool: &[u8], i: usize, prefix: &[u8]) -> bool
+// inner
+pub fn is_other(segments: &[u64], pool: &[u8], i: usize, prefix: &[u8]) -> bool
     requires { ⌜ i < length (now segments) / 12 ⌝ }
     ensures { λ r. ⌜ r ≡ not (sameOf (prefixAt (now (segments .entry)) (now (pool .entry)) i) (now (prefix .entry))) ⌝ }
 {
@@ -169,7 +170,8 @@ fn is_over(most: usize, n: usize, b: Bound) -> bool
 }
 
 // Whether a bound is over its limit, or points outside its pool of `n` bytes.
-fn range_over(most: usize, n: usize, r: Range) -> bool
+// inner
+pub fn range_over(most: usize, n: usize, r: Range) -> bool
     ensures { λ a. ⌜ a ≡ rangeOver most n r ⌝ }
 {
     let s = r.start;
@@ -181,7 +183,8 @@ fn range_over(most: usize, n: usize, r: Range) -> bool
 }
 
 // Whether the start `s` leaves some key that begins with `p`: its least key is below `p`, or begins with it.
-fn start_leaves(args: &[u8], s: Bound, p: &[u8]) -> bool
+// inner
+pub fn start_leaves(args: &[u8], s: Bound, p: &[u8]) -> bool
     ensures { λ r. ⌜ r ≡ underOf (low (edgeOf (now (args .entry)) s)) (after (now (p .entry))) ⌝ }
 {
     match s {

@@ -7,7 +7,6 @@ pub check-segment-prefix-antichain-spec : {M : Type 1} → statement M
 check-segment-prefix-antichain-spec =
     tie.close
     (tie.spec
-    (λ c κs. search needs)  -- find-place-requires
     (λ c κs. search needs)  -- is-extended-requires
     (λ c. search (conflicts, needs))  -- returns
     (λ c κs. search needs)  -- is-begun-requires

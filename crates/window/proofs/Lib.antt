@@ -1,0 +1,4 @@
+pub mod Handed
+pub mod Held
+pub mod Own
+pub mod Rows
