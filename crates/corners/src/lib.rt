@@ -1,0 +1,1 @@
+// The marked corners: one statement and its proof, no code.

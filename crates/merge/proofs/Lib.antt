@@ -1,0 +1,16 @@
+pub mod Ascending
+pub mod Finding
+pub mod Giving
+pub mod Keeping
+pub mod Lawfully
+pub mod Laying
+pub mod Left
+pub mod Measuring
+pub mod Nesting
+pub mod Onward
+pub mod Prefixwise
+pub mod Putting
+pub mod Results
+pub mod Rowwise
+pub mod Standing
+pub mod Trees
