@@ -1,0 +1,12 @@
+pub mod Fronts
+pub mod Naming
+pub mod Putting
+pub mod Owning
+pub mod Poolless
+pub mod Lawfully
+pub mod OwnedAnswers
+pub mod Renewing
+pub mod Lending
+pub mod Baring
+pub mod Cloning
+pub mod ClonedAnswers

@@ -1,0 +1,11 @@
+pub mod Adds
+pub mod Ends
+pub mod Grows
+pub mod Ids
+pub mod Left
+pub mod Many
+pub mod Pieces
+pub mod Results
+pub mod Runs
+pub mod Shows
+pub mod Summed
