@@ -3,6 +3,7 @@
 //! shares no line with the port, the oracle or the model.
 
 mod damage;
+mod history;
 mod limits;
 mod manifests;
 mod operations;
@@ -11,6 +12,7 @@ mod records;
 mod short;
 mod value;
 
+pub use history::History;
 pub use manifests::Maker;
 pub use operations::OPERATIONS;
 pub use random::Random;

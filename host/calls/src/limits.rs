@@ -37,7 +37,7 @@ fn views(maker: &mut Maker, count: usize) -> Vec<View> {
     views
 }
 
-fn segments(count: usize) -> Vec<Segment> {
+pub fn segments(count: usize) -> Vec<Segment> {
     (0..count).map(|i| Segment { prefix: prefix(i), tree: Tree::default() }).collect()
 }
 
@@ -56,7 +56,7 @@ fn borrows(maker: &mut Maker, count: usize, ids: usize) -> Vec<Borrow> {
 }
 
 /// Views whose keys fill so many bytes, a multiple of 64 and a rest.
-fn filling(maker: &mut Maker, bytes: usize) -> Vec<View> {
+pub fn filling(maker: &mut Maker, bytes: usize) -> Vec<View> {
     let mut views = vec![];
     for i in 0..bytes / 64 {
         let mut key = vec![i as u8; 64];

@@ -56,8 +56,8 @@ pub fn classes(calls: impl Iterator<Item = String>) -> bool {
     println!("calls {compared}, different {different}, classes {}", found.len());
     for (class, (count, call)) in &found {
         let (why, look) = class;
-        let small =
-            shrink(call, |call| self::look(call).as_ref() == Some(look) && rules(call, &sets) == *why);
+        let alike = |call: &String| self::look(call).as_ref() == Some(look) && rules(call, &sets) == *why;
+        let small = shrink(call, 1, |calls| calls.iter().position(alike));
         let (operation, standin, real) = look;
         println!("\nrules {why} | {operation} | {standin} | {real} | {count} calls");
         println!("  {}", show(&small));

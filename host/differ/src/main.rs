@@ -6,11 +6,12 @@ mod room;
 mod run;
 mod show;
 mod shrink;
+mod spans;
 mod speaker;
 mod table;
 mod wrong;
 
-use calls::{random, short, Style, OPERATIONS};
+use calls::{random, short, History, Style, OPERATIONS};
 use run::Run;
 use std::io::{self, BufRead};
 use std::process::ExitCode;
@@ -19,25 +20,21 @@ use std::time::Instant;
 const USAGE: &str = "usage:
   differ run A B [C] --seed N [--compared N] [--refusals N] [--only OPERATION] [--progress]
   differ short A B [C]         the short inputs, exhaustively
+  differ histories A B [C] --seed N [--compared N] [--progress]    insertions, each into the result of the one before
   differ file A B [C]          calls from standard input
   differ selftest              five wrong answers, each to be found and shrunk
   differ classes --seed N [--compared N]    stand-ins against slatedb's own bodies
-A, B, C: oracle, real, model, or the path of a program (with a / in it)";
+A, B, C: oracle, real, model, port (where it is built in), or the path of a program (with a / in it)";
 
 fn main() -> ExitCode {
-    match Options::read() {
-        None => {
-            eprintln!("{USAGE}");
+    let done = Options::read().ok_or_else(|| USAGE.to_string()).and_then(|options| options.perform());
+    match done {
+        Ok(true) => ExitCode::SUCCESS,
+        Ok(false) => ExitCode::FAILURE,
+        Err(why) => {
+            eprintln!("{why}");
             ExitCode::from(2)
         }
-        Some(options) => match options.perform() {
-            Some(true) => ExitCode::SUCCESS,
-            Some(false) => ExitCode::FAILURE,
-            None => {
-                eprintln!("{USAGE}");
-                ExitCode::from(2)
-            }
-        },
     }
 }
 
@@ -78,67 +75,89 @@ impl Options {
         Some(options)
     }
 
-    fn perform(&self) -> Option<bool> {
+    fn perform(&self) -> Result<bool, String> {
         match self.mode.as_str() {
             "run" => self.run(),
             "short" => self.finish(short()),
+            "histories" => self.histories(),
             "file" => {
                 self.finish(io::stdin().lock().lines().map_while(Result::ok).filter(|line| is_call(line)))
             }
-            "selftest" => Some(selftest(self.seed)),
-            "classes" => Some(classes::classes(self.lawful_calls())),
-            _ => None,
+            "selftest" => Ok(selftest(self.seed)),
+            "classes" => Ok(classes::classes(self.lawful_calls())),
+            _ => Err(USAGE.to_string()),
         }
     }
 
-    fn operations(&self) -> Vec<&'static str> {
-        let chosen = |operation: &&str| self.only.as_ref().is_none_or(|only| only == operation);
-        OPERATIONS.into_iter().filter(chosen).collect()
+    fn chosen(&self, operation: &str) -> bool {
+        self.only.as_ref().is_none_or(|only| only == operation)
     }
 
-    /// Random calls of each operation, until enough of them were compared.
-    fn run(&self) -> Option<bool> {
+    /// Random calls of each operation that all speakers have, until enough of them were compared.
+    fn run(&self) -> Result<bool, String> {
         let mut run = self.begin()?;
         let start = Instant::now();
-        for operation in self.operations() {
+        let (there, missing): (Vec<&str>, Vec<&str>) =
+            OPERATIONS.into_iter().partition(|operation| run.operations().contains(operation));
+        let chosen: Vec<&'static str> =
+            there.into_iter().filter(|operation| self.chosen(operation)).collect();
+        if !missing.is_empty() {
+            println!("not there yet, and not compared: {}", missing.join(", "));
+        }
+        for operation in &chosen {
             let style = Style { spoilt: true, included: false };
             // If most calls were skipped, the run would not end: four times the number is enough.
             let mut calls = random(self.seed, operation, style).take(4 * self.compared);
             run.compare(&mut calls, |table| {
                 let done = table.compared(operation);
-                if self.progress {
-                    eprintln!(
-                        "{operation}: {done} of {} compared, {} s",
-                        self.compared,
-                        start.elapsed().as_secs()
-                    );
-                }
+                self.show_progress(operation, done, start);
                 done < self.compared
             });
         }
         run.table.print();
         run.print_difference();
-        let short = run.table.shortfalls(&self.operations(), self.compared, self.refusals);
+        let short = run.table.shortfalls(&chosen, self.compared, self.refusals);
         short.iter().for_each(|shortfall| println!("too few: {shortfall}"));
         println!("seed {}: {} differences", self.seed, run.table.different());
-        Some(run.table.different() == 0 && short.is_empty())
+        Ok(run.table.different() == 0 && short.is_empty() && !chosen.is_empty())
     }
 
-    fn begin(&self) -> Option<Run> {
-        if self.speakers.len() < 2 {
-            None
-        } else {
-            Run::new(&self.speakers)
+    /// Histories of insertions, begun with lawful manifests.
+    fn histories(&self) -> Result<bool, String> {
+        const LENGTH: usize = 40;
+        let mut run = self.begin()?;
+        let start = Instant::now();
+        let count = self.compared.div_ceil(LENGTH);
+        let mut histories: Vec<History> = (0..count).map(|i| History::new(self.seed, i)).collect();
+        run.histories(&mut histories, LENGTH, |table| {
+            self.show_progress("insert", table.compared("insert"), start);
+        });
+        run.table.print();
+        run.print_difference();
+        println!("seed {}: {count} histories, {} differences", self.seed, run.table.different());
+        Ok(run.table.different() == 0)
+    }
+
+    fn show_progress(&self, operation: &str, done: usize, start: Instant) {
+        if self.progress {
+            eprintln!("{operation}: {done} of {} compared, {} s", self.compared, start.elapsed().as_secs());
         }
     }
 
-    fn finish(&self, mut calls: impl Iterator<Item = String>) -> Option<bool> {
+    fn begin(&self) -> Result<Run, String> {
+        if self.speakers.len() < 2 {
+            return Err(USAGE.to_string());
+        }
+        Run::new(&self.speakers)
+    }
+
+    fn finish(&self, mut calls: impl Iterator<Item = String>) -> Result<bool, String> {
         let mut run = self.begin()?;
         run.compare(&mut calls, |_| true);
         run.table.print();
         run.print_difference();
         println!("{} differences", run.table.different());
-        Some(run.table.different() == 0)
+        Ok(run.table.different() == 0)
     }
 
     /// Lawful calls of every operation, in half of which no visible range starts excluded, and the
@@ -148,8 +167,9 @@ impl Options {
             let style = Style { spoilt: false, included };
             random(self.seed, operation, style).take(self.compared / 2)
         };
-        self.operations()
+        OPERATIONS
             .into_iter()
+            .filter(|operation| self.chosen(operation))
             .flat_map(move |name| row(name, true).chain(row(name, false)))
             .chain(short())
     }

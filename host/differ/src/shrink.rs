@@ -1,14 +1,20 @@
 //! Makes a call smaller for as long as something stays true of it.
 
+use crate::spans;
 use calls::{decode, from_hex, to_hex, Value};
 
-/// The smallest call found of which `holds` is true; it is true of the one given.
-pub fn shrink(call: &str, holds: impl Fn(&str) -> bool) -> String {
+/// The smallest call found of which something holds; it holds of the one given. `first` says which of
+/// some calls is the first of which it holds, and is asked about so many at once.
+pub fn shrink(call: &str, at_once: usize, first: impl Fn(&[String]) -> Option<usize>) -> String {
     let mut smallest = call.to_string();
-    while let Some(smaller) = candidates(&smallest).into_iter().find(|call| holds(call)) {
-        smallest = smaller;
+    loop {
+        let candidates = candidates(&smallest);
+        let found = candidates.chunks(at_once).find_map(|calls| Some(calls[first(calls)?].clone()));
+        match found {
+            Some(smaller) => smallest = smaller,
+            None => return smallest,
+        }
     }
-    smallest
 }
 
 /// Shorter first; of equal length that with the smaller letters. Every step goes down in it.
@@ -55,6 +61,7 @@ fn smaller_words(word: &str) -> Vec<String> {
         match decode(&bytes) {
             Some(value @ Value::Array(_)) => {
                 found.extend(smaller_values(&value).iter().map(|value| to_hex(&value.encode())));
+                found.extend(spans::smaller(&bytes).iter().map(|bytes| to_hex(bytes)));
             }
             _ => found.extend(smaller_bytes(&bytes).iter().map(|bytes| to_hex(bytes))),
         }

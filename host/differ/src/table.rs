@@ -18,6 +18,18 @@ struct Row {
     kinds: BTreeMap<String, usize>,
     /// Of the skipped ones, by the kind of what the other answered.
     skipped: BTreeMap<String, usize>,
+    /// Of an operation that one of them does not have.
+    lacked: usize,
+}
+
+/// How a call counts.
+#[derive(PartialEq)]
+pub enum Count {
+    Compared,
+    /// The original has no counterpart of the answer.
+    Skipped,
+    /// One of the speakers does not have the operation.
+    Lacked,
 }
 
 /// The refusals that each operation can give: those of the original, and those that are added to it.
@@ -40,13 +52,17 @@ impl Table {
         self.rows.get(operation).map_or(0, |row| row.compared)
     }
 
-    pub fn count(&mut self, operation: &str, kind: String, skipped: bool, different: bool) {
+    pub fn count(&mut self, operation: &str, kind: String, count: Count, different: bool) {
         let name = if OPERATIONS.contains(&operation) { operation } else { "(none of these)" };
         let row = self.rows.entry(name.to_string()).or_default();
         row.calls += 1;
         row.different += usize::from(different);
-        row.compared += usize::from(!skipped && kind != "unknown");
-        let kinds = if skipped { &mut row.skipped } else { &mut row.kinds };
+        row.compared += usize::from(count == Count::Compared && kind != "unknown");
+        let kinds = match count {
+            Count::Compared => &mut row.kinds,
+            Count::Skipped => &mut row.skipped,
+            Count::Lacked => return row.lacked += 1,
+        };
         *kinds.entry(kind).or_default() += 1;
     }
 
@@ -71,8 +87,12 @@ impl Table {
                 words.collect::<Vec<_>>().join(", ")
             };
             let (kinds, skipped) = (list(&row.kinds), list(&row.skipped));
+            let lacked = match row.lacked {
+                0 => String::new(),
+                count => format!(" | not there yet {count}"),
+            };
             let (calls, compared, different) = (row.calls, row.compared, row.different);
-            println!("{operation:<21} {calls:>7} {compared:>9} {different:>9}  {kinds} | {skipped}");
+            println!("{operation:<21} {calls:>7} {compared:>9} {different:>9}  {kinds} | {skipped}{lacked}");
         }
     }
 

@@ -63,6 +63,8 @@ mod lawful;
 mod msgpack;
 mod operations;
 mod records;
+#[cfg(not(feature = "real"))]
+pub mod timed;
 mod words;
 
 use std::io::{self, BufRead, Write};

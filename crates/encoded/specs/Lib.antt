@@ -1,0 +1,5 @@
+pub mod Encoded
+pub mod InTables
+pub mod Read
+pub mod Lookup
+pub mod Select

@@ -1,0 +1,218 @@
+// The face for programs in other languages: encoded manifests, plain bytes and numbers in, numbers and encoded bytes out. All memory
+// is lent by the caller; what the working tables hold after a call is of no use.
+use keys::Bound;
+use keys::Range;
+use manifest_write::Written;
+use records::Fill;
+use records::Refusal;
+use records::limits_01;
+use records::tell;
+use segments::Looked;
+use segments::Selected;
+use tables::ix;
+ghost use mathlib.Core.Path.{_≡_};
+ghost use mathlib.Core.List.{[]};
+ghost use Rattle.records.specs.Row.{boundOf};
+ghost use Rattle.records.specs.Limits.{limits01};
+ghost use Rattle.records.specs.Refusals.{refusal};
+ghost use Rattle.segments.specs.Lookup.{looked};
+ghost use Rattle.segments.specs.Select.{selected};
+ghost use Rattle.manifest_write.specs.Answer.{written};
+ghost use Rattle.manifest_rows.specs.Stored.{lent};
+ghost use Rattle.encoded.specs.Read.{readTo};
+ghost use Rattle.encoded.specs.Lookup.{lookupOf};
+ghost use Rattle.encoded.specs.Select.{selectOf};
+ghost use Rattle.exports.specs.Replies.{told, wroteReply};
+ghost use Rattle.exports.specs.Arguments.{roomFill, rangeArg, oddOf, selectBy};
+
+// ---- what goes in and out
+
+// What a call answers: 0 and the operation's numbers, or a refusal's number and place; the rest 0.
+#[repr(C)]
+pub struct Answer {
+    pub number: usize,
+    pub first: usize,
+    pub second: usize,
+    pub third: usize,
+}
+
+// The six numbers of a room: what a result may fill, in segments, views, runs, borrows, ids and bytes.
+fn room_fill(r: &[u64; 6]) -> Fill
+    ensures { λ f. ⌜ f ≡ roomFill (now (r .entry)) ⌝ }
+{
+    Fill {
+        segments: ix(r[0]),
+        views: ix(r[1]),
+        runs: ix(r[2]),
+        borrows: ix(r[3]),
+        ids: ix(r[4]),
+        bytes: ix(r[5]),
+    }
+}
+
+// A bound: its kind, 0 unbounded, 1 included, 2 excluded, and where its key stands in the bytes lent with it.
+fn bound_arg(kind: u64, at: usize, len: usize) -> Bound
+    ensures { λ r. ⌜ r ≡ boundOf kind at len ⌝ }
+{
+    match kind {
+        0 => Bound::Unbounded,
+        1 => Bound::Included(at, len),
+        _ => Bound::Excluded(at, len),
+    }
+}
+
+// The three numbers of the start, then those of the end.
+fn range_arg(r: &[u64; 6]) -> Range
+    ensures { λ a. ⌜ a ≡ rangeArg (now (r .entry)) ⌝ }
+{
+    Range {
+        start: bound_arg(r[0], ix(r[1]), ix(r[2])),
+        end: bound_arg(r[3], ix(r[4]), ix(r[5])),
+    }
+}
+
+// Whether a bound has a kind that stands for nothing.
+fn is_odd(r: &[u64; 6]) -> bool
+    ensures { λ a. ⌜ a ≡ oddOf (now (r .entry)) ⌝ }
+{
+    if 2 < r[0] {
+        return true;
+    }
+    2 < r[3]
+}
+
+fn refused_answer(x: Refusal) -> Answer
+    ensures { λ r. ⌜ r ≡ told (refusal x) ⌝ }
+{
+    let t = tell(x);
+    Answer {
+        number: t.number,
+        first: t.place,
+        second: 0,
+        third: 0,
+    }
+}
+
+fn written_answer(x: Written) -> Answer
+    ensures { λ r. ⌜ r ≡ told (written x) ⌝ }
+{
+    match x {
+        Written::Done(n) => Answer {
+            number: 0,
+            first: n,
+            second: 0,
+            third: 0,
+        },
+        Written::Refused(r) => refused_answer(r),
+    }
+}
+
+fn looked_answer(x: Looked) -> Answer
+    ensures { λ r. ⌜ r ≡ told (looked x) ⌝ }
+{
+    match x {
+        Looked::Unsegmented => Answer {
+            number: 0,
+            first: 0,
+            second: 0,
+            third: 0,
+        },
+        Looked::Segment(i) => Answer {
+            number: 0,
+            first: 1,
+            second: i,
+            third: 0,
+        },
+        Looked::Absent => Answer {
+            number: 0,
+            first: 2,
+            second: 0,
+            third: 0,
+        },
+        Looked::Refused(r) => refused_answer(r),
+    }
+}
+
+fn selected_answer(x: Selected) -> Answer
+    ensures { λ r. ⌜ r ≡ told (selected x) ⌝ }
+{
+    match x {
+        Selected::Unsegmented => Answer {
+            number: 0,
+            first: 0,
+            second: 0,
+            third: 0,
+        },
+        Selected::Window(first, past) => Answer {
+            number: 0,
+            first: 1,
+            second: first,
+            third: past,
+        },
+        Selected::Refused(r) => refused_answer(r),
+    }
+}
+
+// ---- the entry points
+
+// Reads a manifest and writes it anew, in the shortest forms: 0, and how many bytes of `out` it fills.
+#[no_mangle]
+pub extern "C" fn manifest_read(
+    s: &[u8],
+    room: &[u64; 6],
+    segments: &mut [u64],
+    views: &mut [u64],
+    runs: &mut [u64],
+    borrows: &mut [u64],
+    ids: &mut [u64],
+    out: &mut [u8],
+) -> Answer
+    ensures { λ r. ⌜ record { answer = r; out = now (out .exit) } ≡ wroteReply (readTo limits01 (now (s .entry)) (roomFill (now (room .entry))) (lent (now (segments .entry)) (now (views .entry)) (now (runs .entry)) (now (borrows .entry)) (now (ids .entry)) []) (now (out .entry))) ⌝ }
+{
+    let lim = limits_01();
+    let most = room_fill(room);
+    let w = encoded::read(lim, s, most, segments, views, runs, borrows, ids, out);
+    written_answer(w)
+}
+
+// The tree of a prefix: 0, and 0 for the unsegmented one, 1 and its index for a segment's, 2 where there is none.
+#[no_mangle]
+pub extern "C" fn manifest_lookup(
+    s: &[u8],
+    prefix: &[u8],
+    segments: &mut [u64],
+    views: &mut [u64],
+    runs: &mut [u64],
+    borrows: &mut [u64],
+    ids: &mut [u64],
+) -> Answer
+    ensures { λ r. ⌜ r ≡ told (looked (lookupOf limits01 (now (s .entry)) (now (prefix .entry)) (lent (now (segments .entry)) (now (views .entry)) (now (runs .entry)) (now (borrows .entry)) (now (ids .entry)) []))) ⌝ }
+{
+    let lim = limits_01();
+    let x = encoded::lookup(lim, s, prefix, segments, views, runs, borrows, ids);
+    looked_answer(x)
+}
+
+// The segments with some key in a range: 0, and 0 where there are no segments at all, or 1 with the first and the one past the
+// last.
+#[no_mangle]
+pub extern "C" fn manifest_select(
+    s: &[u8],
+    args: &[u8],
+    range: &[u64; 6],
+    segments: &mut [u64],
+    views: &mut [u64],
+    runs: &mut [u64],
+    borrows: &mut [u64],
+    ids: &mut [u64],
+) -> Answer
+    ensures { λ r. ⌜ r ≡ told (selected (selectBy (now (range .entry)) (now (s .entry)) (now (args .entry)) (lent (now (segments .entry)) (now (views .entry)) (now (runs .entry)) (now (borrows .entry)) (now (ids .entry)) []))) ⌝ }
+{
+    if is_odd(range) {
+        return refused_answer(Refusal::OverLimit);
+    }
+    let lim = limits_01();
+    let r = range_arg(range);
+    let x = encoded::select(lim, s, args, r, segments, views, runs, borrows, ids);
+    selected_answer(x)
+}

@@ -1,0 +1,49 @@
+/* Which segments of a manifest hold keys from one key on, up to but not including another:
+ *   select samples/three.mp b/1 c/
+ */
+#include "manifest.h"
+
+#include <stdio.h>
+#include <string.h>
+
+static uint8_t bytes[MANIFEST_ENCODED + 1];
+static struct manifest_work work;
+
+int main(int argc, char **argv)
+{
+    if (argc != 4) {
+        fprintf(stderr, "usage: select FILE FROM TO\n");
+        return 2;
+    }
+    FILE *file = fopen(argv[1], "rb");
+    if (file == NULL) {
+        perror(argv[1]);
+        return 2;
+    }
+    size_t length = fread(bytes, 1, sizeof bytes, file);
+    fclose(file);
+
+    /* The keys of both bounds stand in one slice. */
+    size_t from = strlen(argv[2]), to = strlen(argv[3]);
+    uint8_t args[2 * 64 + 2];
+    if (from > 65 || to > 65) {
+        fprintf(stderr, "select: a key has at most 64 bytes\n");
+        return 2;
+    }
+    memcpy(args, argv[2], from);
+    memcpy(args + from, argv[3], to);
+    struct manifest_range range = {
+        .start = {MANIFEST_INCLUDED, 0, from},
+        .end = {MANIFEST_EXCLUDED, from, to},
+    };
+
+    struct manifest_answer answer =
+        manifest_select(bytes, length, args, from + to, &range, MANIFEST_WORK(&work));
+    if (answer.number != 0)
+        printf("refused %zu at %zu\n", answer.number, answer.first);
+    else if (answer.first == 0)
+        printf("unsegmented\n");
+    else
+        printf("window %zu %zu\n", answer.second, answer.third);
+    return 0;
+}

@@ -1,0 +1,30 @@
+//! The port behind the line protocol: the proved functions of `crates/exports`, called on byte slices.
+//! What a call is lent is filled with a pattern, and looked at afterwards: see lent.rs.
+
+#[cfg(test)]
+mod faults;
+mod lent;
+mod operations;
+#[cfg(feature = "program")]
+mod program;
+mod range;
+mod words;
+
+pub use operations::OPERATIONS;
+
+use operations::Host;
+use std::cell::RefCell;
+use std::panic::{self, AssertUnwindSafe};
+
+thread_local! {
+    static HOST: RefCell<Host> = RefCell::new(Host::default());
+}
+
+/// The answer to one call. `broken ..` where the port kept some promise of the entry points badly.
+pub fn answer(line: &str) -> String {
+    HOST.with(|host| {
+        let answered = panic::catch_unwind(AssertUnwindSafe(|| host.borrow_mut().answer(line)));
+        // No input ends the program; a fault of the host itself is an answer that nobody else gives.
+        answered.unwrap_or_else(|_| "broken: the host panicked".to_string())
+    })
+}

@@ -1,0 +1,227 @@
+//! The calls of the line protocol, each made of the port's entry point.
+
+use crate::lent::{byte, word, Lent};
+use crate::range::{range, Range};
+use crate::words::{bytes, hex, room, Room};
+use manifest::c::{self, Answer};
+use manifest::ENCODED;
+
+/// The operations that the port has an entry point for; every other call is `unknown`.
+pub const OPERATIONS: [&str; 3] = ["read", "lookup", "select"];
+
+/// Words of the working tables for one manifest: segments, views, runs, borrows, ids.
+pub const ROWS: [usize; 5] = [64 * 12, 512 * 16, 128 * 3, 32 * 9, 512 * 2];
+
+/// A slice that an entry point may write, as it takes it.
+pub struct Slice<T> {
+    at: *mut T,
+    len: usize,
+}
+
+impl<T> Slice<T> {
+    /// The cells must outlive the call.
+    fn of(cells: &mut [T]) -> Slice<T> {
+        Slice { at: cells.as_mut_ptr(), len: cells.len() }
+    }
+}
+
+type Rows = [Slice<u64>; 5];
+
+/// An entry point on its first arguments, the working tables, and its last arguments.
+macro_rules! call {
+    ($entry:path, ($($first:expr),*), $rows:expr, ($($last:expr),*)) => {{
+        let [segments, views, runs, borrows, ids]: &Rows = $rows;
+        // Every pointer and length is that of a slice which outlives the call, and no two overlap.
+        unsafe {
+            $entry(
+                $($first,)*
+                segments.at, segments.len, views.at, views.len, runs.at, runs.len,
+                borrows.at, borrows.len, ids.at, ids.len,
+                $($last,)*
+            )
+        }
+    }};
+}
+
+/// What is lent to the entry points, kept from call to call.
+pub struct Host {
+    rows: [Lent<u64>; 5],
+    out: Lent<u8>,
+    answered: u64,
+}
+
+impl Default for Host {
+    fn default() -> Host {
+        Host { rows: ROWS.map(|count| Lent::new(count, word)), out: Lent::new(ENCODED, byte), answered: 0 }
+    }
+}
+
+/// A promise that was not kept.
+struct Broken(&'static str);
+
+type Told = Result<String, Broken>;
+
+impl Host {
+    pub fn answer(&mut self, line: &str) -> String {
+        self.answered += 1;
+        match self.call(line) {
+            None => "unknown".to_string(),
+            Some(Ok(answer)) => answer,
+            Some(Err(Broken(why))) => format!("broken: {why}"),
+        }
+    }
+
+    /// `None` for a line that is no call.
+    fn call(&mut self, line: &str) -> Option<Told> {
+        let (room, call) = room(line)?;
+        let words: Vec<&str> = call.split(' ').collect();
+        Some(match words[..] {
+            ["read", manifest] => self.read(&bytes(manifest)?, &room),
+            ["lookup", manifest, prefix] => self.lookup(&bytes(manifest)?, &bytes(prefix)?),
+            ["select", manifest, wanted] => {
+                let wanted = bytes(wanted)?;
+                let bounds = range(&wanted)?;
+                self.select(&bytes(manifest)?, &wanted, &bounds)
+            }
+            _ => return None,
+        })
+    }
+
+    fn read(&mut self, manifest: &[u8], room: &Room) -> Told {
+        self.written(manifest.len(), |rows, out| {
+            call!(c::manifest_read, (manifest.as_ptr(), manifest.len(), room), rows, (out.at, out.len))
+        })
+    }
+
+    fn lookup(&mut self, manifest: &[u8], prefix: &[u8]) -> Told {
+        let (s, p) = (manifest, prefix);
+        let answer = self
+            .told(|rows| call!(c::manifest_lookup, (s.as_ptr(), s.len(), p.as_ptr(), p.len()), rows, ()))?;
+        match (answer.number, answer.first, answer.second, answer.third) {
+            (0, 0, 0, 0) => Ok("ok unsegmented".to_string()),
+            (0, 1, index, 0) => Ok(format!("ok segment {index}")),
+            (0, 2, 0, 0) => Ok("ok absent".to_string()),
+            _ => refusal(answer),
+        }
+    }
+
+    fn select(&mut self, manifest: &[u8], args: &[u8], range: &Range) -> Told {
+        let (s, a) = (manifest, args);
+        let answer = self.told(|rows| {
+            call!(c::manifest_select, (s.as_ptr(), s.len(), a.as_ptr(), a.len(), range), rows, ())
+        })?;
+        match (answer.number, answer.first, answer.second, answer.third) {
+            (0, 0, 0, 0) => Ok("ok unsegmented".to_string()),
+            (0, 1, from, to) => Ok(format!("ok window {from} {to}")),
+            _ => refusal(answer),
+        }
+    }
+
+    /// A call that fills no output.
+    fn told(&mut self, call: impl Fn(&Rows) -> Answer) -> Result<Answer, Broken> {
+        let answer = call(&self.rows());
+        self.guarded()?;
+        if self.probes() {
+            let again = call(&self.rows());
+            self.guarded()?;
+            require(again == answer, "another answer to the same call")?;
+            self.too_short(answer, |rows| call(rows))?;
+        }
+        Ok(answer)
+    }
+
+    /// A call whose result is written; its answer's first number says how long it is. It is lent what
+    /// most results fit in, some more than was given, and if that is too little the most that any has.
+    fn written(&mut self, given: usize, call: impl Fn(&Rows, &Slice<u8>) -> Answer) -> Told {
+        let most = if self.answered % 16 == 2 { ENCODED } else { ENCODED.min(given + 2_000) };
+        let (mut answer, mut result) = self.into(most, &call)?;
+        if answer == NO_ROOM && most < ENCODED {
+            (answer, result) = self.into(ENCODED, &call)?;
+        }
+        if self.probes() {
+            let length = if answer.number == 0 { answer.first } else { ENCODED / 2 };
+            let fitting = self.into(length, &call)?;
+            require(fitting == (answer, result.clone()), "another answer into a place that just fits")?;
+            if answer.number == 0 && length > 0 {
+                let (short, _) = self.into(length - 1, &call)?;
+                require(short == NO_ROOM, "no refusal 4 for a place that is one byte too short")?;
+            }
+            let out = Slice::of(self.out.filled(ENCODED));
+            self.too_short(answer, |rows| call(rows, &out))?;
+            require(self.out.kept_from(0), "a refused call changed the output")?;
+        }
+        if answer.number != 0 {
+            return refusal(answer);
+        }
+        require((answer.second, answer.third) == (0, 0), "numbers in an answer that has one")?;
+        Ok(format!("ok {}", hex(&result)))
+    }
+
+    /// The answer, and what was written into so many bytes.
+    fn into(
+        &mut self,
+        length: usize,
+        call: impl Fn(&Rows, &Slice<u8>) -> Answer,
+    ) -> Result<(Answer, Vec<u8>), Broken> {
+        let rows = self.rows();
+        let answer = call(&rows, &Slice::of(self.out.filled(length)));
+        self.guarded()?;
+        if answer.number != 0 {
+            require(self.out.kept_from(0), "a refused call changed the output")?;
+            return Ok((answer, vec![]));
+        }
+        require(answer.first <= length, "a result longer than its place")?;
+        require(self.out.kept_from(answer.first), "the output changed past the result")?;
+        Ok((answer, self.out.cells()[..answer.first].to_vec()))
+    }
+
+    /// Working tables for one manifest. They may hold anything: a pattern now and then, and mostly
+    /// what earlier calls left.
+    fn rows(&mut self) -> Rows {
+        let fresh = self.answered % 16 == 1;
+        let mut counts = ROWS.into_iter();
+        self.rows.each_mut().map(|table| {
+            let count = counts.next().unwrap_or(0);
+            Slice::of(if fresh { table.filled(count) } else { table.as_left() })
+        })
+    }
+
+    fn guarded(&self) -> Result<(), Broken> {
+        require(self.rows.iter().all(Lent::guarded), "something was written beside the working tables")
+    }
+
+    /// Some calls are made again, in other places than the first time.
+    fn probes(&self) -> bool {
+        self.answered % 16 == 15
+    }
+
+    /// One of the working tables a word too short: 4 before the manifest is looked at, and after 2.
+    fn too_short(&mut self, answer: Answer, call: impl Fn(&Rows) -> Answer) -> Result<(), Broken> {
+        let short = (self.answered / 16 % 5) as usize;
+        let mut places = 0..;
+        let rows = self.rows.each_mut().map(|table| {
+            let cells = table.as_left();
+            let count = cells.len() - usize::from(places.next() == Some(short));
+            Slice::of(&mut cells[..count])
+        });
+        let wanted = if answer.number == 2 { answer } else { NO_ROOM };
+        require(call(&rows) == wanted, "no refusal 4 for a working table that is too short")?;
+        self.guarded()
+    }
+}
+
+const NO_ROOM: Answer = Answer { number: 4, first: 0, second: 0, third: 0 };
+
+fn require(kept: bool, why: &'static str) -> Result<(), Broken> {
+    if kept {
+        Ok(())
+    } else {
+        Err(Broken(why))
+    }
+}
+
+fn refusal(answer: Answer) -> Told {
+    let plain = answer.number != 0 && (answer.second, answer.third) == (0, 0);
+    require(plain, "numbers that are no answer of this call")?;
+    Ok(format!("refused {} at {}", answer.number, answer.first))
+}

@@ -1,0 +1,174 @@
+#!/usr/bin/env python3
+# The list that crates/replay plays through the port's entry points under `rt ci`: calls with the original's answers.
+#   tools/replay.py --list    asks the oracle and writes tests/data/replay.txt: a call, then `= ` and its answer
+#   tools/replay.py           writes crates/replay/stdin and stdout from tests/data/replay.txt
+#   tools/replay.py --check   says whether both are as it would write them, and the list as the oracle answers
+# It needs Python's standard library, and cargo where the oracle is asked.
+#
+# stdin is a row of frames: the length of what follows in two bytes, highest first, then the operation in one byte (its place in
+# OPERATIONS) and its parts, each behind its length in two bytes. The parts are the call's words as bytes; ids joined stand
+# in one part; a range is two parts, its own bytes and six numbers of two bytes over them: of its start and of its end the
+# kind (0 unbounded, 1 included, 2 excluded), the place and the length of the key. An absent word is a part of no bytes.
+# stdout is the answers, one a line, as the line protocol has them. Calls of an operation that crates/replay has not are left out.
+import os, re, subprocess, sys
+
+os.chdir(os.path.join(os.path.dirname(os.path.abspath(__file__)), '..'))
+LIST, STDIN, STDOUT = 'tests/data/replay.txt', 'crates/replay/stdin', 'crates/replay/stdout'
+OPERATIONS = ['read', 'lookup', 'insert', 'merge_from_writer', 'merge_from_compactor', 'select', 'project', 'owned', 'clone', 'union']
+# All frames are read at once by a program whose buffer has 65,536 bytes: so many bytes are for each operation.
+SHARE = 6400
+SEED = 20
+
+
+# ---- the list
+
+def built(name):
+    subprocess.run(['cargo', 'build', '--quiet', '--release', '--offline', '--manifest-path', 'host/Cargo.toml', '-p', name], check=True)
+    return os.path.join(os.environ.get('CARGO_TARGET_DIR', 'host/target'), 'release', name)
+
+
+def asked(calls):
+    run = subprocess.run([built('oracle')], input='\n'.join(calls) + '\n', capture_output=True, text=True, check=True)
+    return run.stdout.split('\n')[:-1]
+
+
+def look(answer):
+    """What is told apart when calls are picked: `ok`, `ok window`, `refused 3` .."""
+    words = answer.split(' ')
+    told = words[0] == 'refused' or words[1] in ('unsegmented', 'segment', 'absent', 'found', 'entered', 'window', '.')
+    return ' '.join(words[:2]) if told else words[0]
+
+
+def picked(operation):
+    """Calls of every look in turn, shorter and longer ones, until the share is used up."""
+    text = subprocess.run([built('calls'), str(SEED), '20000', operation], capture_output=True, text=True, check=True).stdout
+    calls = sorted({call for call in text.split('\n') if call.startswith(operation + ' ') and call.isascii() and len(call) < 2400})
+    looks = {}
+    for call, answer in zip(calls, asked(calls)):
+        if answer.split(' ')[0] in ('ok', 'refused'):
+            looks.setdefault(look(answer), []).append((call, answer))
+    rows = []
+    for pairs in looks.values():
+        pairs.sort(key=lambda pair: (len(pair[0]), pair[0]))
+        # The shortest, the longest that is short enough, and those at even steps between.
+        few = [pair for pair in pairs if len(frame(pair[0])) < SHARE // 8] or pairs[:1]
+        steps = [few[i * (len(few) - 1) // 29] for i in range(30)]
+        rows.append(list(dict.fromkeys(steps)))
+    chosen, left = [], SHARE
+    for turn in range(30):
+        for row in rows:
+            if turn < len(row) and len(frame(row[turn][0])) <= left:
+                chosen.append(row[turn])
+                left -= len(frame(row[turn][0]))
+    return chosen
+
+
+def read_list():
+    lines = [line for line in open(LIST, encoding='ascii').read().split('\n') if line and not line.startswith('#')]
+    return list(zip(lines[::2], (line[2:] for line in lines[1::2])))
+
+
+def list_text():
+    text = "# Calls, and after \"= \" the original's answers. Made by tools/replay.py --list.\n"
+    for operation in OPERATIONS:
+        for call, answer in picked(operation):
+            text += '%s\n= %s\n' % (call, answer)
+    return text
+
+
+# ---- frames
+
+def raw(word):
+    return b'' if word in ('-', '.') else bytes.fromhex(word)
+
+
+def part(data):
+    return len(data).to_bytes(2, 'big') + data
+
+
+def head(data, at):
+    """The value at a place: its first byte, its number or length, and where what follows begins."""
+    first = data[at]
+    if first < 0x80 or first == 0xc0: return first, first, at + 1
+    if 0x90 <= first < 0xa0: return 0x90, first & 15, at + 1
+    width = {0xc4: 1, 0xc5: 2, 0xc6: 4, 0xcc: 1, 0xcd: 2, 0xce: 4, 0xcf: 8, 0xd0: 1, 0xd1: 2, 0xd2: 4, 0xd3: 8, 0xdc: 2, 0xdd: 4}[first]
+    return {0xdc: 0x90, 0xdd: 0x90}.get(first, first), int.from_bytes(data[at + 1:at + 1 + width], 'big'), at + 1 + width
+
+
+def range_parts(word):
+    """The two parts of a range. Ranges with further elements are not among the calls."""
+    data = raw(word)
+    numbers, (_, count, at) = [], head(data, 0)
+    assert count == 2
+    for _ in range(2):
+        first, count, at = head(data, at)
+        if first == 0xc0:
+            numbers += [0, 0, 0]
+            continue
+        assert count == 2
+        _, kind, at = head(data, at)
+        _, length, at = head(data, at)
+        numbers += [kind + 1, at, length]
+        at += length
+    return part(data) + part(b''.join(number.to_bytes(2, 'big') for number in numbers))
+
+
+def frame(call):
+    words = call.split(' ')
+    operation, words = words[0], words[1:]
+    if operation == 'select':
+        inside = part(raw(words[0])) + range_parts(words[1])
+    elif operation == 'project':
+        inside = part(raw(words[0])) + ranged(words[1]) + part(filtered(words[2]))
+        inside += part(b'' if words[3] == '.' else bytes([1])) + (b'' if words[3] == '.' else b''.join(map(ranged, words[3].split(','))))
+    elif operation == 'clone':
+        inside = b''.join(part(raw(word)) for word in words[:3]) + part(b''.join(map(raw, words[3].split(','))))
+    elif operation == 'union':
+        inside = part(b''.join(map(raw, words[0].split(','))))
+        inside += b''.join(part(raw(word)) for source in words[1:] for word in source.split(':'))
+    else:
+        inside = b''.join(part(raw(word)) for word in words)
+    return part(bytes([OPERATIONS.index(operation)]) + inside)
+
+
+def ranged(word):
+    return part(b'') + part(b'') if word == '.' else range_parts(word)
+
+
+def filtered(word):
+    return b'' if word == '.' else bytes([int(word[0])]) + bytes.fromhex(word[2:])
+
+
+# ---- what crates/replay is given
+
+def played():
+    """The operations that crates/replay has: those that it names in a line `// replays: read lookup ..`."""
+    source = open('crates/replay/src/main.rt', encoding='utf-8').read()
+    return re.search(r'// replays: ([a-z_ ]+)', source).group(1).split()
+
+
+def files():
+    pairs = [pair for pair in read_list() if pair[0].split(' ')[0] in played()]
+    return b''.join(frame(call) for call, _ in pairs), ''.join(answer + '\n' for _, answer in pairs).encode()
+
+
+def main(words):
+    if words == ['--list']:
+        text = list_text()
+        with open(LIST, 'w', encoding='ascii') as f:
+            f.write(text)
+    elif words == []:
+        for path, data in zip((STDIN, STDOUT), files()):
+            with open(path, 'wb') as f:
+                f.write(data)
+    elif words == ['--check']:
+        pairs = read_list()
+        assert asked([call for call, _ in pairs]) == [answer for _, answer in pairs], LIST + ': not what the oracle answers'
+        for path, data in zip((STDIN, STDOUT), files()) if os.path.exists(STDIN) else ():
+            assert open(path, 'rb').read() == data, path + ': not what tools/replay.py makes of the list'
+        print('%d calls' % len(pairs))
+    else:
+        sys.exit('usage: tools/replay.py [--list | --check]')
+
+
+main(sys.argv[1:])
