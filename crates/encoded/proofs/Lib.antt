@@ -1,3 +1,4 @@
 pub mod Opens
 pub mod Writes
 pub mod Looks
+pub mod Inserts

@@ -3,3 +3,4 @@ pub mod InTables
 pub mod Read
 pub mod Lookup
 pub mod Select
+pub mod Insert

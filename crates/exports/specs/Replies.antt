@@ -3,6 +3,7 @@ use Prim.Native.Nat.{ℕ}
 use mathlib.Core.List.{List}
 use lib.ListN.{getD}
 use Rattle.manifest_write.specs.Answer.{Outcome, written}
+use Rattle.encoded.specs.Insert.{Outcome as Inserts, inserted}
 use Rattle.exports.specs.declared.Answer.{Answer}
 
 -- the numbers of an answer, in order; 0 where it has no more
@@ -17,3 +18,7 @@ pub record Reply : Type 0 where
 -- 0 and how many bytes were written, or the refusal
 abbrev pub wroteReply : Outcome → Reply
 wroteReply o = record { answer = told (written (o .answer)); out = o .out }
+
+-- 0, how the prefix's segment came to be, its index and how many bytes were written, or the refusal
+abbrev pub insertReply : Inserts → Reply
+insertReply o = record { answer = told (inserted (o .answer)); out = o .out }

@@ -1,5 +1,6 @@
 // The face for programs in other languages: encoded manifests, plain bytes and numbers in, numbers and encoded bytes out. All memory
 // is lent by the caller; what the working tables hold after a call is of no use.
+use encoded::InsertedTo;
 use keys::Bound;
 use keys::Range;
 use manifest_write::Written;
@@ -22,7 +23,8 @@ ghost use Rattle.manifest_rows.specs.Stored.{lent};
 ghost use Rattle.encoded.specs.Read.{readTo};
 ghost use Rattle.encoded.specs.Lookup.{lookupOf};
 ghost use Rattle.encoded.specs.Select.{selectOf};
-ghost use Rattle.exports.specs.Replies.{told, wroteReply};
+ghost use Rattle.encoded.specs.Insert.{inserted, insertTo};
+ghost use Rattle.exports.specs.Replies.{told, wroteReply, insertReply};
 ghost use Rattle.exports.specs.Arguments.{roomFill, rangeArg, oddOf, selectBy};
 
 // ---- what goes in and out
@@ -153,6 +155,26 @@ fn selected_answer(x: Selected) -> Answer
     }
 }
 
+fn inserted_answer(x: InsertedTo) -> Answer
+    ensures { λ r. ⌜ r ≡ told (inserted x) ⌝ }
+{
+    match x {
+        InsertedTo::Found(i) => Answer {
+            number: 0,
+            first: 0,
+            second: i,
+            third: 0,
+        },
+        InsertedTo::Entered(i, n) => Answer {
+            number: 0,
+            first: 1,
+            second: i,
+            third: n,
+        },
+        InsertedTo::Refused(r) => refused_answer(r),
+    }
+}
+
 // ---- the entry points
 
 // Reads a manifest and writes it anew, in the shortest forms: 0, and how many bytes of `out` it fills.
@@ -215,4 +237,49 @@ pub extern "C" fn manifest_select(
     let r = range_arg(range);
     let x = encoded::select(lim, s, args, r, segments, views, runs, borrows, ids);
     selected_answer(x)
+}
+
+// The segment of a prefix: 0, then 0 and its index where it was held, or 1, the index at which it entered with an empty tree, and how
+// many bytes of `out` the manifest fills that it is then in.
+#[no_mangle]
+pub extern "C" fn manifest_insert(
+    s: &[u8],
+    prefix: &[u8],
+    room: &[u64; 6],
+    segments: &mut [u64],
+    views: &mut [u64],
+    runs: &mut [u64],
+    borrows: &mut [u64],
+    ids: &mut [u64],
+    out_segments: &mut [u64],
+    out_views: &mut [u64],
+    out_runs: &mut [u64],
+    out_borrows: &mut [u64],
+    out_ids: &mut [u64],
+    out_pool: &mut [u8],
+    out: &mut [u8],
+) -> Answer
+    ensures { λ r. ⌜ record { answer = r; out = now (out .exit) } ≡ insertReply (insertTo limits01 (now (s .entry)) (now (prefix .entry)) (roomFill (now (room .entry))) (lent (now (segments .entry)) (now (views .entry)) (now (runs .entry)) (now (borrows .entry)) (now (ids .entry)) []) (lent (now («out_segments» .entry)) (now («out_views» .entry)) (now («out_runs» .entry)) (now («out_borrows» .entry)) (now («out_ids» .entry)) (now («out_pool» .entry))) (now (out .entry))) ⌝ }
+{
+    let lim = limits_01();
+    let most = room_fill(room);
+    let x = encoded::insert(
+        lim,
+        s,
+        prefix,
+        most,
+        segments,
+        views,
+        runs,
+        borrows,
+        ids,
+        out_segments,
+        out_views,
+        out_runs,
+        out_borrows,
+        out_ids,
+        out_pool,
+        out,
+    );
+    inserted_answer(x)
 }

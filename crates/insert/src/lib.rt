@@ -370,7 +370,8 @@ fn put_entered(
 // ---- insert
 
 // What a manifest that keeps L1 fills with an empty segment more, of a prefix of `len` bytes.
-fn filled_with(
+// inner
+pub fn filled_with(
     lim: Limits,
     segments: &[u64],
     views: &[u64],

@@ -41,6 +41,24 @@ pub mod c {
             ids: *mut u64, ids_len: usize,
         ) -> Answer;
 
+        pub fn manifest_insert(
+            s: *const u8, s_len: usize,
+            prefix: *const u8, prefix_len: usize,
+            room: *const [u64; 6],
+            segments: *mut u64, segments_len: usize,
+            views: *mut u64, views_len: usize,
+            runs: *mut u64, runs_len: usize,
+            borrows: *mut u64, borrows_len: usize,
+            ids: *mut u64, ids_len: usize,
+            out_segments: *mut u64, out_segments_len: usize,
+            out_views: *mut u64, out_views_len: usize,
+            out_runs: *mut u64, out_runs_len: usize,
+            out_borrows: *mut u64, out_borrows_len: usize,
+            out_ids: *mut u64, out_ids_len: usize,
+            out_pool: *mut u8, out_pool_len: usize,
+            out: *mut u8, out_len: usize,
+        ) -> Answer;
+
         pub fn manifest_select(
             s: *const u8, s_len: usize,
             args: *const u8, args_len: usize,
@@ -107,6 +125,15 @@ pub enum Tree {
     Absent,
 }
 
+/// Where a prefix is.
+#[derive(Clone, Copy, Debug, PartialEq, Eq)]
+pub enum Insertion<'a> {
+    /// It was held, at this index.
+    Found(usize),
+    /// It entered at this index, and the manifest that it is then in is these bytes.
+    Entered(usize, &'a [u8]),
+}
+
 /// Which segments have a key in a range.
 #[derive(Clone, Debug, PartialEq, Eq)]
 pub enum Selection {
@@ -118,26 +145,45 @@ pub enum Selection {
 /// The longest encoded manifest.
 pub const ENCODED: usize = 65_536;
 
-/// The memory that calls work in.
-pub struct Lent {
+/// The tables of one manifest.
+struct Tables {
     segments: Vec<u64>,
     views: Vec<u64>,
     runs: Vec<u64>,
     borrows: Vec<u64>,
     ids: Vec<u64>,
+}
+
+impl Default for Tables {
+    fn default() -> Tables {
+        Tables {
+            segments: vec![0; 64 * 12],
+            views: vec![0; 512 * 16],
+            runs: vec![0; 128 * 3],
+            borrows: vec![0; 32 * 9],
+            ids: vec![0; 512 * 2],
+        }
+    }
+}
+
+/// The memory that calls work in.
+pub struct Lent {
+    tables: Tables,
+    result: Tables,
+    pool: Vec<u8>,
     out: Vec<u8>,
 }
 
-/// The working tables as the last arguments of a call.
+/// The working tables between the first and the last arguments of a call.
 macro_rules! with_tables {
     ($call:path, $lent:expr, $($first:expr),* ; $($last:expr),*) => {
         $call(
             $($first,)*
-            $lent.segments.as_mut_ptr(), $lent.segments.len(),
-            $lent.views.as_mut_ptr(), $lent.views.len(),
-            $lent.runs.as_mut_ptr(), $lent.runs.len(),
-            $lent.borrows.as_mut_ptr(), $lent.borrows.len(),
-            $lent.ids.as_mut_ptr(), $lent.ids.len(),
+            $lent.tables.segments.as_mut_ptr(), $lent.tables.segments.len(),
+            $lent.tables.views.as_mut_ptr(), $lent.tables.views.len(),
+            $lent.tables.runs.as_mut_ptr(), $lent.tables.runs.len(),
+            $lent.tables.borrows.as_mut_ptr(), $lent.tables.borrows.len(),
+            $lent.tables.ids.as_mut_ptr(), $lent.tables.ids.len(),
             $($last,)*
         )
     };
@@ -146,11 +192,9 @@ macro_rules! with_tables {
 impl Default for Lent {
     fn default() -> Lent {
         Lent {
-            segments: vec![0; 64 * 12],
-            views: vec![0; 512 * 16],
-            runs: vec![0; 128 * 3],
-            borrows: vec![0; 32 * 9],
-            ids: vec![0; 512 * 2],
+            tables: Tables::default(),
+            result: Tables::default(),
+            pool: vec![0; 8_192],
             out: vec![0; ENCODED],
         }
     }
@@ -185,6 +229,27 @@ impl Lent {
             0 => Tree::Unsegmented,
             1 => Tree::Segment(answer.second),
             _ => Tree::Absent,
+        })
+    }
+
+    /// A prefix entered with an empty tree, unless it is held.
+    pub fn insert(&mut self, manifest: &[u8], prefix: &[u8], room: &Room) -> Result<Insertion<'_>, Refusal> {
+        let room = room.numbers();
+        // SAFETY: as in `read`.
+        let answer = unsafe {
+            with_tables!(c::manifest_insert, self, manifest.as_ptr(), manifest.len(), prefix.as_ptr(), prefix.len(), &room;
+                self.result.segments.as_mut_ptr(), self.result.segments.len(),
+                self.result.views.as_mut_ptr(), self.result.views.len(),
+                self.result.runs.as_mut_ptr(), self.result.runs.len(),
+                self.result.borrows.as_mut_ptr(), self.result.borrows.len(),
+                self.result.ids.as_mut_ptr(), self.result.ids.len(),
+                self.pool.as_mut_ptr(), self.pool.len(),
+                self.out.as_mut_ptr(), self.out.len())
+        };
+        let answer = good(answer)?;
+        Ok(match answer.first {
+            0 => Insertion::Found(answer.second),
+            _ => Insertion::Entered(answer.second, &self.out[..answer.third]),
         })
     }
 

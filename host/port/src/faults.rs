@@ -108,6 +108,11 @@ unsafe extern "C" fn manifest_lookup() -> Answer {
 }
 
 #[no_mangle]
+unsafe extern "C" fn manifest_insert() -> Answer {
+    Answer::default()
+}
+
+#[no_mangle]
 unsafe extern "C" fn manifest_select() -> Answer {
     Answer::default()
 }

@@ -7,7 +7,7 @@ use manifest::c::{self, Answer};
 use manifest::ENCODED;
 
 /// The operations that the port has an entry point for; every other call is `unknown`.
-pub const OPERATIONS: [&str; 3] = ["read", "lookup", "select"];
+pub const OPERATIONS: [&str; 4] = ["read", "lookup", "insert", "select"];
 
 /// Words of the working tables for one manifest: segments, views, runs, borrows, ids.
 pub const ROWS: [usize; 5] = [64 * 12, 512 * 16, 128 * 3, 32 * 9, 512 * 2];
@@ -43,16 +43,28 @@ macro_rules! call {
     }};
 }
 
+/// Bytes of the pool for one manifest.
+pub const POOL: usize = 8_192;
+
 /// What is lent to the entry points, kept from call to call.
 pub struct Host {
     rows: [Lent<u64>; 5],
+    result: [Lent<u64>; 5],
+    pool: Lent<u8>,
     out: Lent<u8>,
     answered: u64,
 }
 
 impl Default for Host {
     fn default() -> Host {
-        Host { rows: ROWS.map(|count| Lent::new(count, word)), out: Lent::new(ENCODED, byte), answered: 0 }
+        let tables = || ROWS.map(|count| Lent::new(count, word));
+        Host {
+            rows: tables(),
+            result: tables(),
+            pool: Lent::new(POOL, byte),
+            out: Lent::new(ENCODED, byte),
+            answered: 0,
+        }
     }
 }
 
@@ -78,6 +90,7 @@ impl Host {
         Some(match words[..] {
             ["read", manifest] => self.read(&bytes(manifest)?, &room),
             ["lookup", manifest, prefix] => self.lookup(&bytes(manifest)?, &bytes(prefix)?),
+            ["insert", manifest, prefix] => self.insert(&bytes(manifest)?, &bytes(prefix)?, &room),
             ["select", manifest, wanted] => {
                 let wanted = bytes(wanted)?;
                 let bounds = range(&wanted)?;
@@ -88,9 +101,44 @@ impl Host {
     }
 
     fn read(&mut self, manifest: &[u8], room: &Room) -> Told {
-        self.written(manifest.len(), |rows, out| {
+        let length = |answer: &Answer| answer.first;
+        let (answer, result) = self.written(manifest.len(), length, |rows, out| {
             call!(c::manifest_read, (manifest.as_ptr(), manifest.len(), room), rows, (out.at, out.len))
-        })
+        })?;
+        match (answer.number, answer.second, answer.third) {
+            (0, 0, 0) => Ok(format!("ok {}", hex(&result))),
+            _ => refusal(answer),
+        }
+    }
+
+    fn insert(&mut self, manifest: &[u8], prefix: &[u8], room: &Room) -> Told {
+        let (s, p) = (manifest, prefix);
+        let fresh = self.answered % 16 == 3;
+        let mut counts = ROWS.into_iter();
+        let [segments, views, runs, borrows, ids] = self.result.each_mut().map(|table| {
+            let count = counts.next().unwrap_or(0);
+            Slice::of(if fresh { table.filled(count) } else { table.as_left() })
+        });
+        let pool = Slice::of(if fresh { self.pool.filled(POOL) } else { self.pool.as_left() });
+        let length = |answer: &Answer| answer.third;
+        let (answer, result) = self.written(s.len(), length, |rows, out| {
+            call!(
+                c::manifest_insert,
+                (s.as_ptr(), s.len(), p.as_ptr(), p.len(), room),
+                rows,
+                (
+                    segments.at, segments.len, views.at, views.len, runs.at, runs.len, borrows.at,
+                    borrows.len, ids.at, ids.len, pool.at, pool.len, out.at, out.len
+                )
+            )
+        })?;
+        let whole = self.result.iter().all(Lent::guarded) && self.pool.guarded();
+        require(whole, "something was written beside the result tables")?;
+        match (answer.number, answer.first, answer.second, answer.third) {
+            (0, 0, index, 0) => Ok(format!("ok found {index}")),
+            (0, 1, index, 1..) => Ok(format!("ok entered {index} {}", hex(&result))),
+            _ => refusal(answer),
+        }
     }
 
     fn lookup(&mut self, manifest: &[u8], prefix: &[u8]) -> Told {
@@ -130,37 +178,39 @@ impl Host {
         Ok(answer)
     }
 
-    /// A call whose result is written; its answer's first number says how long it is. It is lent what
-    /// most results fit in, some more than was given, and if that is too little the most that any has.
-    fn written(&mut self, given: usize, call: impl Fn(&Rows, &Slice<u8>) -> Answer) -> Told {
+    /// A call whose result is written, and which of its answer's numbers says how long it is. It is lent
+    /// what most results fit in, some more than was given, and if that is too little the most that any has.
+    fn written(
+        &mut self,
+        given: usize,
+        length_of: impl Fn(&Answer) -> usize,
+        call: impl Fn(&Rows, &Slice<u8>) -> Answer,
+    ) -> Result<(Answer, Vec<u8>), Broken> {
         let most = if self.answered % 16 == 2 { ENCODED } else { ENCODED.min(given + 2_000) };
-        let (mut answer, mut result) = self.into(most, &call)?;
+        let (mut answer, mut result) = self.into(most, &length_of, &call)?;
         if answer == NO_ROOM && most < ENCODED {
-            (answer, result) = self.into(ENCODED, &call)?;
+            (answer, result) = self.into(ENCODED, &length_of, &call)?;
         }
         if self.probes() {
-            let length = if answer.number == 0 { answer.first } else { ENCODED / 2 };
-            let fitting = self.into(length, &call)?;
+            let length = if answer.number == 0 { length_of(&answer) } else { ENCODED / 2 };
+            let fitting = self.into(length, &length_of, &call)?;
             require(fitting == (answer, result.clone()), "another answer into a place that just fits")?;
             if answer.number == 0 && length > 0 {
-                let (short, _) = self.into(length - 1, &call)?;
+                let (short, _) = self.into(length - 1, &length_of, &call)?;
                 require(short == NO_ROOM, "no refusal 4 for a place that is one byte too short")?;
             }
             let out = Slice::of(self.out.filled(ENCODED));
             self.too_short(answer, |rows| call(rows, &out))?;
             require(self.out.kept_from(0), "a refused call changed the output")?;
         }
-        if answer.number != 0 {
-            return refusal(answer);
-        }
-        require((answer.second, answer.third) == (0, 0), "numbers in an answer that has one")?;
-        Ok(format!("ok {}", hex(&result)))
+        Ok((answer, result))
     }
 
     /// The answer, and what was written into so many bytes.
     fn into(
         &mut self,
         length: usize,
+        length_of: impl Fn(&Answer) -> usize,
         call: impl Fn(&Rows, &Slice<u8>) -> Answer,
     ) -> Result<(Answer, Vec<u8>), Broken> {
         let rows = self.rows();
@@ -170,9 +220,10 @@ impl Host {
             require(self.out.kept_from(0), "a refused call changed the output")?;
             return Ok((answer, vec![]));
         }
-        require(answer.first <= length, "a result longer than its place")?;
-        require(self.out.kept_from(answer.first), "the output changed past the result")?;
-        Ok((answer, self.out.cells()[..answer.first].to_vec()))
+        let written = length_of(&answer);
+        require(written <= length, "a result longer than its place")?;
+        require(self.out.kept_from(written), "the output changed past the result")?;
+        Ok((answer, self.out.cells()[..written].to_vec()))
     }
 
     /// Working tables for one manifest. They may hold anything: a pattern now and then, and mostly
