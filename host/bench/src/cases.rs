@@ -1,7 +1,7 @@
 //! What is timed: each operation that the port has, on one manifest.
 
 use crate::msgpack;
-use manifest::{Lent, Room, Selection, Tree};
+use manifest::{Insertion, Lent, Room, Selection, Tree};
 use oracle::timed::{self, Loaded};
 use std::ops::Bound::{Excluded, Included};
 
@@ -34,6 +34,7 @@ pub fn all(manifest: &[u8]) -> Vec<Case<'_>> {
     let mut cases = vec![read(manifest)];
     cases.extend(read_by_library(manifest));
     cases.push(lookup(manifest));
+    cases.push(insert(manifest));
     cases.push(select(manifest));
     cases
 }
@@ -84,6 +85,36 @@ fn lookup(manifest: &[u8]) -> Case<'_> {
         original: Box::new(move || Loaded::from(manifest).lookup(&again).into()),
         port_alone: None,
         original_alone: Some(Box::new(move || loaded.lookup(&alone).into())),
+    }
+}
+
+/// A prefix behind all others enters, and the manifest with it is written; where the list is full, a held one is found.
+fn insert(manifest: &[u8]) -> Case<'_> {
+    let mut lent = Lent::new();
+    let (held, last) = prefixes(manifest);
+    let full = Loaded::from(manifest).prefixes().len() == 64;
+    let prefix = if full { held } else { vec![last[0] + 1] };
+    let entering = timed::prefix(&prefix);
+    let mut port = move || match lent.insert(manifest, &prefix, &Room::L1).expect("it is lawful") {
+        Insertion::Found(_) => 0,
+        Insertion::Entered(_, anew) => anew.len(),
+    };
+    let original = move || {
+        let mut loaded = Loaded::from(manifest);
+        assert!(loaded.insert(&entering), "it enters, or is held");
+        if full {
+            0
+        } else {
+            loaded.bytes().len()
+        }
+    };
+    assert_eq!(port(), original(), "what is timed is the same");
+    Case {
+        operation: "insert",
+        port: Box::new(port),
+        original: Box::new(original),
+        port_alone: None,
+        original_alone: None,
     }
 }
 
