@@ -85,7 +85,7 @@ struct manifest_work {
     (w)->segments, MANIFEST_SEGMENT_WORDS, (w)->views, MANIFEST_VIEW_WORDS, (w)->runs,               \
         MANIFEST_RUN_WORDS, (w)->borrows, MANIFEST_BORROW_WORDS, (w)->ids, MANIFEST_ID_WORDS
 
-/* The working tables in which a result is laid out before it is encoded. */
+/* The tables in which a resulting manifest is laid out before it is written: working memory too. Some 94 kB. */
 struct manifest_result {
     uint64_t segments[MANIFEST_SEGMENT_WORDS];
     uint64_t views[MANIFEST_VIEW_WORDS];
@@ -97,7 +97,9 @@ struct manifest_result {
 
 /* A struct manifest_result behind a pointer, as arguments of a call. */
 #define MANIFEST_RESULT(r)                                                                           \
-    MANIFEST_WORK(r), (r)->pool, MANIFEST_BYTES
+    (r)->segments, MANIFEST_SEGMENT_WORDS, (r)->views, MANIFEST_VIEW_WORDS, (r)->runs,               \
+        MANIFEST_RUN_WORDS, (r)->borrows, MANIFEST_BORROW_WORDS, (r)->ids, MANIFEST_ID_WORDS,        \
+        (r)->pool, MANIFEST_BYTES
 
 /* Reads a manifest and writes it anew, in the shortest forms, at the front of `out`. `first`: how many bytes. */
 struct manifest_answer manifest_read(
@@ -120,8 +122,20 @@ struct manifest_answer manifest_lookup(
     uint64_t *borrows, size_t borrows_len,
     uint64_t *ids, size_t ids_len);
 
-/* The segment of a prefix. `first`: 0 it was held, at index `second`, and `out` is as it was; 1 it entered at index `second`
- * with an empty tree, and the manifest that it is then in fills `third` bytes of `out`. */
+/* The segments with some key in a range. `first`: 0 the manifest has no segments, 1 those from `second` on, up to but not
+ * including `third`; 0 to 0 is none of them. */
+struct manifest_answer manifest_select(
+    const uint8_t *s, size_t s_len,
+    const uint8_t *args, size_t args_len,
+    const struct manifest_range *range,
+    uint64_t *segments, size_t segments_len,
+    uint64_t *views, size_t views_len,
+    uint64_t *runs, size_t runs_len,
+    uint64_t *borrows, size_t borrows_len,
+    uint64_t *ids, size_t ids_len);
+
+/* The segment of a prefix. `first`: 0 it is held, as segment `second`, and nothing is written; 1 it entered as segment `second`,
+ * with an empty tree, and the manifest that it is then in is written at the front of `out`. `third`: how many bytes. */
 struct manifest_answer manifest_insert(
     const uint8_t *s, size_t s_len,
     const uint8_t *prefix, size_t prefix_len,
@@ -138,18 +152,6 @@ struct manifest_answer manifest_insert(
     uint64_t *out_ids, size_t out_ids_len,
     uint8_t *out_pool, size_t out_pool_len,
     uint8_t *out, size_t out_len);
-
-/* The segments with some key in a range. `first`: 0 the manifest has no segments, 1 those from `second` on, up to but not
- * including `third`; 0 to 0 is none of them. */
-struct manifest_answer manifest_select(
-    const uint8_t *s, size_t s_len,
-    const uint8_t *args, size_t args_len,
-    const struct manifest_range *range,
-    uint64_t *segments, size_t segments_len,
-    uint64_t *views, size_t views_len,
-    uint64_t *runs, size_t runs_len,
-    uint64_t *borrows, size_t borrows_len,
-    uint64_t *ids, size_t ids_len);
 
 #ifdef __cplusplus
 }

@@ -41,6 +41,17 @@ pub mod c {
             ids: *mut u64, ids_len: usize,
         ) -> Answer;
 
+        pub fn manifest_select(
+            s: *const u8, s_len: usize,
+            args: *const u8, args_len: usize,
+            range: *const [u64; 6],
+            segments: *mut u64, segments_len: usize,
+            views: *mut u64, views_len: usize,
+            runs: *mut u64, runs_len: usize,
+            borrows: *mut u64, borrows_len: usize,
+            ids: *mut u64, ids_len: usize,
+        ) -> Answer;
+
         pub fn manifest_insert(
             s: *const u8, s_len: usize,
             prefix: *const u8, prefix_len: usize,
@@ -57,17 +68,6 @@ pub mod c {
             out_ids: *mut u64, out_ids_len: usize,
             out_pool: *mut u8, out_pool_len: usize,
             out: *mut u8, out_len: usize,
-        ) -> Answer;
-
-        pub fn manifest_select(
-            s: *const u8, s_len: usize,
-            args: *const u8, args_len: usize,
-            range: *const [u64; 6],
-            segments: *mut u64, segments_len: usize,
-            views: *mut u64, views_len: usize,
-            runs: *mut u64, runs_len: usize,
-            borrows: *mut u64, borrows_len: usize,
-            ids: *mut u64, ids_len: usize,
         ) -> Answer;
     }
 }
@@ -125,15 +125,6 @@ pub enum Tree {
     Absent,
 }
 
-/// Where a prefix is.
-#[derive(Clone, Copy, Debug, PartialEq, Eq)]
-pub enum Insertion<'a> {
-    /// It was held, at this index.
-    Found(usize),
-    /// It entered at this index, and the manifest that it is then in is these bytes.
-    Entered(usize, &'a [u8]),
-}
-
 /// Which segments have a key in a range.
 #[derive(Clone, Debug, PartialEq, Eq)]
 pub enum Selection {
@@ -142,48 +133,44 @@ pub enum Selection {
     Window(Range<usize>),
 }
 
+/// The segment of a prefix that was to be inserted.
+#[derive(Clone, Debug, PartialEq, Eq)]
+pub enum Insertion<'a> {
+    /// It is held already, at this index.
+    Found(usize),
+    /// It entered at this index, with an empty tree; the manifest that it is then in.
+    Entered(usize, &'a [u8]),
+}
+
 /// The longest encoded manifest.
 pub const ENCODED: usize = 65_536;
 
-/// The tables of one manifest.
-struct Tables {
+/// The memory that calls work in.
+pub struct Lent {
     segments: Vec<u64>,
     views: Vec<u64>,
     runs: Vec<u64>,
     borrows: Vec<u64>,
     ids: Vec<u64>,
-}
-
-impl Default for Tables {
-    fn default() -> Tables {
-        Tables {
-            segments: vec![0; 64 * 12],
-            views: vec![0; 512 * 16],
-            runs: vec![0; 128 * 3],
-            borrows: vec![0; 32 * 9],
-            ids: vec![0; 512 * 2],
-        }
-    }
-}
-
-/// The memory that calls work in.
-pub struct Lent {
-    tables: Tables,
-    result: Tables,
-    pool: Vec<u8>,
+    out_segments: Vec<u64>,
+    out_views: Vec<u64>,
+    out_runs: Vec<u64>,
+    out_borrows: Vec<u64>,
+    out_ids: Vec<u64>,
+    out_pool: Vec<u8>,
     out: Vec<u8>,
 }
 
-/// The working tables between the first and the last arguments of a call.
+/// The working tables as the last arguments of a call.
 macro_rules! with_tables {
     ($call:path, $lent:expr, $($first:expr),* ; $($last:expr),*) => {
         $call(
             $($first,)*
-            $lent.tables.segments.as_mut_ptr(), $lent.tables.segments.len(),
-            $lent.tables.views.as_mut_ptr(), $lent.tables.views.len(),
-            $lent.tables.runs.as_mut_ptr(), $lent.tables.runs.len(),
-            $lent.tables.borrows.as_mut_ptr(), $lent.tables.borrows.len(),
-            $lent.tables.ids.as_mut_ptr(), $lent.tables.ids.len(),
+            $lent.segments.as_mut_ptr(), $lent.segments.len(),
+            $lent.views.as_mut_ptr(), $lent.views.len(),
+            $lent.runs.as_mut_ptr(), $lent.runs.len(),
+            $lent.borrows.as_mut_ptr(), $lent.borrows.len(),
+            $lent.ids.as_mut_ptr(), $lent.ids.len(),
             $($last,)*
         )
     };
@@ -192,9 +179,17 @@ macro_rules! with_tables {
 impl Default for Lent {
     fn default() -> Lent {
         Lent {
-            tables: Tables::default(),
-            result: Tables::default(),
-            pool: vec![0; 8_192],
+            segments: vec![0; 64 * 12],
+            views: vec![0; 512 * 16],
+            runs: vec![0; 128 * 3],
+            borrows: vec![0; 32 * 9],
+            ids: vec![0; 512 * 2],
+            out_segments: vec![0; 64 * 12],
+            out_views: vec![0; 512 * 16],
+            out_runs: vec![0; 128 * 3],
+            out_borrows: vec![0; 32 * 9],
+            out_ids: vec![0; 512 * 2],
+            out_pool: vec![0; 8_192],
             out: vec![0; ENCODED],
         }
     }
@@ -232,27 +227,6 @@ impl Lent {
         })
     }
 
-    /// A prefix entered with an empty tree, unless it is held.
-    pub fn insert(&mut self, manifest: &[u8], prefix: &[u8], room: &Room) -> Result<Insertion<'_>, Refusal> {
-        let room = room.numbers();
-        // SAFETY: as in `read`.
-        let answer = unsafe {
-            with_tables!(c::manifest_insert, self, manifest.as_ptr(), manifest.len(), prefix.as_ptr(), prefix.len(), &room;
-                self.result.segments.as_mut_ptr(), self.result.segments.len(),
-                self.result.views.as_mut_ptr(), self.result.views.len(),
-                self.result.runs.as_mut_ptr(), self.result.runs.len(),
-                self.result.borrows.as_mut_ptr(), self.result.borrows.len(),
-                self.result.ids.as_mut_ptr(), self.result.ids.len(),
-                self.pool.as_mut_ptr(), self.pool.len(),
-                self.out.as_mut_ptr(), self.out.len())
-        };
-        let answer = good(answer)?;
-        Ok(match answer.first {
-            0 => Insertion::Found(answer.second),
-            _ => Insertion::Entered(answer.second, &self.out[..answer.third]),
-        })
-    }
-
     /// The segments with some key in a range.
     pub fn select(&mut self, manifest: &[u8], start: Bound<&[u8]>, end: Bound<&[u8]>) -> Result<Selection, Refusal> {
         let mut args = vec![];
@@ -267,6 +241,27 @@ impl Lent {
         Ok(match answer.first {
             0 => Selection::Unsegmented,
             _ => Selection::Window(answer.second..answer.third),
+        })
+    }
+
+    /// The segment of a prefix: found where it is held, else entered with an empty tree.
+    pub fn insert(&mut self, manifest: &[u8], prefix: &[u8], room: &Room) -> Result<Insertion<'_>, Refusal> {
+        let room = room.numbers();
+        // SAFETY: as in `read`.
+        let answer = unsafe {
+            with_tables!(c::manifest_insert, self, manifest.as_ptr(), manifest.len(), prefix.as_ptr(), prefix.len(), &room;
+                self.out_segments.as_mut_ptr(), self.out_segments.len(),
+                self.out_views.as_mut_ptr(), self.out_views.len(),
+                self.out_runs.as_mut_ptr(), self.out_runs.len(),
+                self.out_borrows.as_mut_ptr(), self.out_borrows.len(),
+                self.out_ids.as_mut_ptr(), self.out_ids.len(),
+                self.out_pool.as_mut_ptr(), self.out_pool.len(),
+                self.out.as_mut_ptr(), self.out.len())
+        };
+        let answer = good(answer)?;
+        Ok(match answer.first {
+            0 => Insertion::Found(answer.second),
+            _ => Insertion::Entered(answer.second, &self.out[..answer.third]),
         })
     }
 }

@@ -108,12 +108,12 @@ unsafe extern "C" fn manifest_lookup() -> Answer {
 }
 
 #[no_mangle]
-unsafe extern "C" fn manifest_insert() -> Answer {
+unsafe extern "C" fn manifest_select() -> Answer {
     Answer::default()
 }
 
 #[no_mangle]
-unsafe extern "C" fn manifest_select() -> Answer {
+unsafe extern "C" fn manifest_insert() -> Answer {
     Answer::default()
 }
 
@@ -140,6 +140,7 @@ fn no_fault_is_found_where_there_is_none() {
     assert_eq!(host.answer("read -"), "refused 18 at 0");
     assert_eq!(host.answer("lookup c0 -"), "ok unsegmented");
     assert_eq!(host.answer("select c0 92c0c0"), "ok unsegmented");
+    assert_eq!(host.answer("insert c0 -"), "ok found 0");
 }
 
 #[test]
@@ -174,6 +175,8 @@ fn malformed_lines_are_unknown() {
         "select c0 92c09200a100",
         "lookup c0",
         "lookup c0 a",
+        "insert c0",
+        "insert c0 - -",
         "read \u{e9}\u{e9}",
     ];
     for line in lines {

@@ -7,10 +7,13 @@ use manifest::c::{self, Answer};
 use manifest::ENCODED;
 
 /// The operations that the port has an entry point for; every other call is `unknown`.
-pub const OPERATIONS: [&str; 4] = ["read", "lookup", "insert", "select"];
+pub const OPERATIONS: [&str; 4] = ["read", "lookup", "select", "insert"];
 
 /// Words of the working tables for one manifest: segments, views, runs, borrows, ids.
 pub const ROWS: [usize; 5] = [64 * 12, 512 * 16, 128 * 3, 32 * 9, 512 * 2];
+
+/// Bytes of the pool of a result.
+pub const POOL: usize = 8_192;
 
 /// A slice that an entry point may write, as it takes it.
 pub struct Slice<T> {
@@ -26,6 +29,12 @@ impl<T> Slice<T> {
 }
 
 type Rows = [Slice<u64>; 5];
+
+/// The tables in which a result is laid out before it is written.
+struct Results {
+    rows: Rows,
+    pool: Slice<u8>,
+}
 
 /// An entry point on its first arguments, the working tables, and its last arguments.
 macro_rules! call {
@@ -43,13 +52,10 @@ macro_rules! call {
     }};
 }
 
-/// Bytes of the pool for one manifest.
-pub const POOL: usize = 8_192;
-
 /// What is lent to the entry points, kept from call to call.
 pub struct Host {
     rows: [Lent<u64>; 5],
-    result: [Lent<u64>; 5],
+    results: [Lent<u64>; 5],
     pool: Lent<u8>,
     out: Lent<u8>,
     answered: u64,
@@ -57,10 +63,10 @@ pub struct Host {
 
 impl Default for Host {
     fn default() -> Host {
-        let tables = || ROWS.map(|count| Lent::new(count, word));
+        let rows = || ROWS.map(|count| Lent::new(count, word));
         Host {
-            rows: tables(),
-            result: tables(),
+            rows: rows(),
+            results: rows(),
             pool: Lent::new(POOL, byte),
             out: Lent::new(ENCODED, byte),
             answered: 0,
@@ -90,53 +96,26 @@ impl Host {
         Some(match words[..] {
             ["read", manifest] => self.read(&bytes(manifest)?, &room),
             ["lookup", manifest, prefix] => self.lookup(&bytes(manifest)?, &bytes(prefix)?),
-            ["insert", manifest, prefix] => self.insert(&bytes(manifest)?, &bytes(prefix)?, &room),
             ["select", manifest, wanted] => {
                 let wanted = bytes(wanted)?;
                 let bounds = range(&wanted)?;
                 self.select(&bytes(manifest)?, &wanted, &bounds)
             }
+            ["insert", manifest, prefix] => self.insert(&bytes(manifest)?, &bytes(prefix)?, &room),
             _ => return None,
         })
     }
 
     fn read(&mut self, manifest: &[u8], room: &Room) -> Told {
-        let length = |answer: &Answer| answer.first;
-        let (answer, result) = self.written(manifest.len(), length, |rows, out| {
-            call!(c::manifest_read, (manifest.as_ptr(), manifest.len(), room), rows, (out.at, out.len))
-        })?;
+        let (answer, result) = self.written(
+            manifest.len(),
+            |answer| answer.first,
+            |rows, out| {
+                call!(c::manifest_read, (manifest.as_ptr(), manifest.len(), room), rows, (out.at, out.len))
+            },
+        )?;
         match (answer.number, answer.second, answer.third) {
             (0, 0, 0) => Ok(format!("ok {}", hex(&result))),
-            _ => refusal(answer),
-        }
-    }
-
-    fn insert(&mut self, manifest: &[u8], prefix: &[u8], room: &Room) -> Told {
-        let (s, p) = (manifest, prefix);
-        let fresh = self.answered % 16 == 3;
-        let mut counts = ROWS.into_iter();
-        let [segments, views, runs, borrows, ids] = self.result.each_mut().map(|table| {
-            let count = counts.next().unwrap_or(0);
-            Slice::of(if fresh { table.filled(count) } else { table.as_left() })
-        });
-        let pool = Slice::of(if fresh { self.pool.filled(POOL) } else { self.pool.as_left() });
-        let length = |answer: &Answer| answer.third;
-        let (answer, result) = self.written(s.len(), length, |rows, out| {
-            call!(
-                c::manifest_insert,
-                (s.as_ptr(), s.len(), p.as_ptr(), p.len(), room),
-                rows,
-                (
-                    segments.at, segments.len, views.at, views.len, runs.at, runs.len, borrows.at,
-                    borrows.len, ids.at, ids.len, pool.at, pool.len, out.at, out.len
-                )
-            )
-        })?;
-        let whole = self.result.iter().all(Lent::guarded) && self.pool.guarded();
-        require(whole, "something was written beside the result tables")?;
-        match (answer.number, answer.first, answer.second, answer.third) {
-            (0, 0, index, 0) => Ok(format!("ok found {index}")),
-            (0, 1, index, 1..) => Ok(format!("ok entered {index} {}", hex(&result))),
             _ => refusal(answer),
         }
     }
@@ -165,6 +144,54 @@ impl Host {
         }
     }
 
+    fn insert(&mut self, manifest: &[u8], prefix: &[u8], room: &Room) -> Told {
+        let (s, p) = (manifest, prefix);
+        let call = |to: &Results, rows: &Rows, out: &Slice<u8>| {
+            let [segments, views, runs, borrows, ids] = &to.rows;
+            let pool = &to.pool;
+            call!(
+                c::manifest_insert,
+                (s.as_ptr(), s.len(), p.as_ptr(), p.len(), room),
+                rows,
+                (
+                    segments.at,
+                    segments.len,
+                    views.at,
+                    views.len,
+                    runs.at,
+                    runs.len,
+                    borrows.at,
+                    borrows.len,
+                    ids.at,
+                    ids.len,
+                    pool.at,
+                    pool.len,
+                    out.at,
+                    out.len
+                )
+            )
+        };
+        let to = self.results();
+        let (answer, result) =
+            self.written(s.len(), |answer| answer.third, |rows, out| call(&to, rows, out))?;
+        if self.probes() {
+            let short = self.short_results();
+            let (rows, out) = (self.rows(), Slice::of(self.out.filled(ENCODED)));
+            let wanted = if answer.number == 2 { answer } else { NO_ROOM };
+            require(
+                call(&short, &rows, &out) == wanted,
+                "no refusal 4 for a result table that is too short",
+            )?;
+            require(self.out.kept_from(0), "a refused call changed the output")?;
+            self.guarded()?;
+        }
+        match (answer.number, answer.first, answer.second, answer.third) {
+            (0, 0, index, 0) => Ok(format!("ok found {index}")),
+            (0, 1, index, _) => Ok(format!("ok entered {index} {}", hex(&result))),
+            _ => refusal(answer),
+        }
+    }
+
     /// A call that fills no output.
     fn told(&mut self, call: impl Fn(&Rows) -> Answer) -> Result<Answer, Broken> {
         let answer = call(&self.rows());
@@ -178,25 +205,25 @@ impl Host {
         Ok(answer)
     }
 
-    /// A call whose result is written, and which of its answer's numbers says how long it is. It is lent
+    /// A call whose result is written, and `long` is what its answer says of how long that is. It is lent
     /// what most results fit in, some more than was given, and if that is too little the most that any has.
     fn written(
         &mut self,
         given: usize,
-        length_of: impl Fn(&Answer) -> usize,
+        long: impl Fn(Answer) -> usize,
         call: impl Fn(&Rows, &Slice<u8>) -> Answer,
     ) -> Result<(Answer, Vec<u8>), Broken> {
         let most = if self.answered % 16 == 2 { ENCODED } else { ENCODED.min(given + 2_000) };
-        let (mut answer, mut result) = self.into(most, &length_of, &call)?;
+        let (mut answer, mut result) = self.into(most, &long, &call)?;
         if answer == NO_ROOM && most < ENCODED {
-            (answer, result) = self.into(ENCODED, &length_of, &call)?;
+            (answer, result) = self.into(ENCODED, &long, &call)?;
         }
         if self.probes() {
-            let length = if answer.number == 0 { length_of(&answer) } else { ENCODED / 2 };
-            let fitting = self.into(length, &length_of, &call)?;
+            let length = if answer.number == 0 { long(answer) } else { ENCODED / 2 };
+            let fitting = self.into(length, &long, &call)?;
             require(fitting == (answer, result.clone()), "another answer into a place that just fits")?;
             if answer.number == 0 && length > 0 {
-                let (short, _) = self.into(length - 1, &length_of, &call)?;
+                let (short, _) = self.into(length - 1, &long, &call)?;
                 require(short == NO_ROOM, "no refusal 4 for a place that is one byte too short")?;
             }
             let out = Slice::of(self.out.filled(ENCODED));
@@ -210,7 +237,7 @@ impl Host {
     fn into(
         &mut self,
         length: usize,
-        length_of: impl Fn(&Answer) -> usize,
+        long: impl Fn(Answer) -> usize,
         call: impl Fn(&Rows, &Slice<u8>) -> Answer,
     ) -> Result<(Answer, Vec<u8>), Broken> {
         let rows = self.rows();
@@ -220,25 +247,43 @@ impl Host {
             require(self.out.kept_from(0), "a refused call changed the output")?;
             return Ok((answer, vec![]));
         }
-        let written = length_of(&answer);
-        require(written <= length, "a result longer than its place")?;
-        require(self.out.kept_from(written), "the output changed past the result")?;
-        Ok((answer, self.out.cells()[..written].to_vec()))
+        let filled = long(answer);
+        require(filled <= length, "a result longer than its place")?;
+        require(self.out.kept_from(filled), "the output changed past the result")?;
+        Ok((answer, self.out.cells()[..filled].to_vec()))
     }
 
     /// Working tables for one manifest. They may hold anything: a pattern now and then, and mostly
     /// what earlier calls left.
     fn rows(&mut self) -> Rows {
-        let fresh = self.answered % 16 == 1;
-        let mut counts = ROWS.into_iter();
-        self.rows.each_mut().map(|table| {
-            let count = counts.next().unwrap_or(0);
-            Slice::of(if fresh { table.filled(count) } else { table.as_left() })
-        })
+        let fresh = self.fresh();
+        lend(&mut self.rows, fresh)
+    }
+
+    /// The same for a result.
+    fn results(&mut self) -> Results {
+        let fresh = self.fresh();
+        let pool = Slice::of(if fresh { self.pool.filled(POOL) } else { self.pool.as_left() });
+        Results { rows: lend(&mut self.results, fresh), pool }
+    }
+
+    /// One of them a cell too short.
+    fn short_results(&mut self) -> Results {
+        let short = (self.answered / 16 % 6) as usize;
+        let cells = self.pool.as_left();
+        let count = cells.len() - usize::from(short == 5);
+        let pool = Slice::of(&mut cells[..count]);
+        Results { rows: shorten(&mut self.results, short), pool }
     }
 
     fn guarded(&self) -> Result<(), Broken> {
-        require(self.rows.iter().all(Lent::guarded), "something was written beside the working tables")
+        let mut tables = self.rows.iter().chain(&self.results);
+        let kept = tables.all(Lent::guarded) && self.pool.guarded();
+        require(kept, "something was written beside the working tables")
+    }
+
+    fn fresh(&self) -> bool {
+        self.answered % 16 == 1
     }
 
     /// Some calls are made again, in other places than the first time.
@@ -249,16 +294,30 @@ impl Host {
     /// One of the working tables a word too short: 4 before the manifest is looked at, and after 2.
     fn too_short(&mut self, answer: Answer, call: impl Fn(&Rows) -> Answer) -> Result<(), Broken> {
         let short = (self.answered / 16 % 5) as usize;
-        let mut places = 0..;
-        let rows = self.rows.each_mut().map(|table| {
-            let cells = table.as_left();
-            let count = cells.len() - usize::from(places.next() == Some(short));
-            Slice::of(&mut cells[..count])
-        });
+        let rows = shorten(&mut self.rows, short);
         let wanted = if answer.number == 2 { answer } else { NO_ROOM };
         require(call(&rows) == wanted, "no refusal 4 for a working table that is too short")?;
         self.guarded()
     }
+}
+
+/// The tables, filled with the pattern or as the last call left them.
+fn lend(tables: &mut [Lent<u64>; 5], fresh: bool) -> Rows {
+    let mut counts = ROWS.into_iter();
+    tables.each_mut().map(|table| {
+        let count = counts.next().unwrap_or(0);
+        Slice::of(if fresh { table.filled(count) } else { table.as_left() })
+    })
+}
+
+/// The tables as the last call left them, this one a word too short.
+fn shorten(tables: &mut [Lent<u64>; 5], short: usize) -> Rows {
+    let mut places = 0..;
+    tables.each_mut().map(|table| {
+        let cells = table.as_left();
+        let count = cells.len() - usize::from(places.next() == Some(short));
+        Slice::of(&mut cells[..count])
+    })
 }
 
 const NO_ROOM: Answer = Answer { number: 4, first: 0, second: 0, third: 0 };
