@@ -2,5 +2,4 @@ pub mod Owned
 pub mod Places
 pub mod Clone
 pub mod Bare
-pub mod Prune
 pub mod Answer

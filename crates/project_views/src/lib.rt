@@ -600,7 +600,8 @@ fn add_bounds(most: Fill, pool: &[u8], s: Bound, e: Bound, c: Fill) -> Measured
 }
 
 // Adds a view.
-fn add_view(most: Fill, pool: &[u8], v: ViewRow, c: Fill) -> Measured
+// inner
+pub fn add_view(most: Fill, pool: &[u8], v: ViewRow, c: Fill) -> Measured
     ensures { λ q. ⌜ q ≡ addOf most c (viewFill (viewIn (now (pool .entry)) v)) ⌝ }
 {
     let last = v.last;

@@ -1,0 +1,3 @@
+pub mod Project
+pub mod Answer
+pub mod Steps

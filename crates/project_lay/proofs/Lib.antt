@@ -1,0 +1,4 @@
+pub mod Adds
+pub mod After
+pub mod Listing
+pub mod Puts
