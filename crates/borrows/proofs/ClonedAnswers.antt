@@ -55,7 +55,7 @@ sum-fills most c more f h = go (fits (plus c more) most) h
     go true e = (cc, refl)
     go false e = let z : _≡_ {A = ℕ} 0 1 = cc in absurd (omega arith)
 
-borrows-filled : (m : Manifest) → manifestFill m .borrows ≡ length (m .borrows)
+pub borrows-filled : (m : Manifest) → manifestFill m .borrows ≡ length (m .borrows)
 unfolding manifestFill
 borrows-filled m =
     let t = ap (λ (f : Fill). f .borrows) (tree-fill (m .tree)) in

@@ -1,4 +1,4 @@
-// Owned ids, clone, and the borrows that a projection leaves.
+// Owned ids and clone.
 use copy::manifest_row;
 use copy::no_room;
 use copy::put_manifest;
@@ -271,7 +271,8 @@ fn own_segments(
 }
 
 // The unsegmented tree, then the segments.
-fn own_all(
+// inner
+pub fn own_all(
     segments: &[u64],
     views: &[u64],
     runs: &[u64],
@@ -381,7 +382,8 @@ fn is_missing(f: Final) -> bool
 }
 
 // Whether some borrow of the window has no final checkpoint.
-fn lacks_final(borrows: &[u64], w: Window) -> bool
+// inner
+pub fn lacks_final(borrows: &[u64], w: Window) -> bool
     ensures { λ r. ⌜ r ≡ refuses15 (borrowsIn (now (borrows .entry)) [] [] w) ⌝ }
 {
     let n = held(w, borrows.len() / 9);
@@ -642,7 +644,8 @@ fn bare_fill(
 }
 
 // What the clone of a lawful manifest fills, where that is within the limits.
-fn clone_fill(
+// inner
+pub fn clone_fill(
     lim: Limits,
     segments: &[u64],
     views: &[u64],

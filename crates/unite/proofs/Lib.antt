@@ -1,0 +1,4 @@
+pub mod Answers
+pub mod Lifted
+pub mod Plain
+pub mod Given

@@ -1,0 +1,12 @@
+pub mod Spots
+pub mod Placing
+pub mod IdSets
+pub mod Orders
+pub mod GroupRows
+pub mod Entering
+pub mod Checkpoints
+pub mod Grouping
+pub mod Lent
+pub mod Ascending
+pub mod Results
+pub mod Theirs

@@ -1,0 +1,5 @@
+pub mod Sets
+pub mod Groups
+pub mod Chosen
+pub mod Rows
+pub mod Steps

@@ -1,0 +1,4 @@
+pub mod Source
+pub mod Used
+pub mod Prefixed
+pub mod Rows

@@ -1,0 +1,3 @@
+pub mod Joined
+pub mod Rows
+pub mod Steps
