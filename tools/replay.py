@@ -2,14 +2,15 @@
 # The list that crates/replay plays through the port's entry points under `rt ci`: calls with the original's answers.
 #   tools/replay.py --list    asks the oracle and writes tests/data/replay.txt: a call, then `= ` and its answer
 #   tools/replay.py           writes crates/replay/stdin and stdout from tests/data/replay.txt
-#   tools/replay.py --check   says whether both are as it would write them, and the list as the oracle answers
-# It needs Python's standard library, and cargo where the oracle is asked.
+#   tools/replay.py --same    says whether both are as it would write them
+#   tools/replay.py --check   says so, and whether the list is as the oracle answers
+# It needs Python's standard library, and for --list and --check cargo, to ask the oracle.
 #
-# stdin is a row of frames: the length of what follows in two bytes, highest first, then the operation in one byte (its place in
-# OPERATIONS) and its parts, each behind its length in two bytes. The parts are the call's words as bytes; ids joined stand
-# in one part; a range is two parts, its own bytes and six numbers of two bytes over them: of its start and of its end the
-# kind (0 unbounded, 1 included, 2 excluded), the place and the length of the key. An absent word is a part of no bytes.
-# stdout is the answers, one a line, as the line protocol has them. Calls of an operation that crates/replay has not are left out.
+# stdin is a row of parts, one for each call. A part is its length in two bytes, highest first, and so many bytes. In a call's part stand
+# the operation in one byte (its place in OPERATIONS) and the operation's parts: the call's words as bytes; ids joined are one
+# part; a range is two, its own bytes and six numbers of two bytes over them: of its start and of its end the kind (0 unbounded,
+# 1 included, 2 excluded), the place and the length of the key. An absent word is a part of no bytes.
+# stdout is the answers, one a line, as the line protocol has them. Calls of an operation that crates/replay does not name are left out.
 import os, re, subprocess, sys
 
 os.chdir(os.path.join(os.path.dirname(os.path.abspath(__file__)), '..'))
@@ -68,8 +69,18 @@ def read_list():
     return list(zip(lines[::2], (line[2:] for line in lines[1::2])))
 
 
+HEAD = """\
+# Calls of the line protocol, each with the original's answer on the line after it, behind "= ". Played through the proved entry points by
+# crates/replay under `rt ci`, so that the port is held against the original where there is no Rust.
+# How it was made: `tools/replay.py --list` had the generator (host/calls, seed %d) make 20,000 calls of each operation, asked the
+# oracle (host/oracle, the original's mod.rs), put aside what it skips, and took from every kind of answer in turn the shortest, the
+# longest and some between, %s bytes for each operation. The answers are the oracle's and no other's; `tools/replay.py --check`
+# asks it again.
+"""
+
+
 def list_text():
-    text = "# Calls, and after \"= \" the original's answers. Made by tools/replay.py --list.\n"
+    text = HEAD % (SEED, format(SHARE, ','))
     for operation in OPERATIONS:
         for call, answer in picked(operation):
             text += '%s\n= %s\n' % (call, answer)
@@ -161,14 +172,17 @@ def main(words):
         for path, data in zip((STDIN, STDOUT), files()):
             with open(path, 'wb') as f:
                 f.write(data)
-    elif words == ['--check']:
+    elif words in (['--same'], ['--check']):
         pairs = read_list()
-        assert asked([call for call, _ in pairs]) == [answer for _, answer in pairs], LIST + ': not what the oracle answers'
-        for path, data in zip((STDIN, STDOUT), files()) if os.path.exists(STDIN) else ():
-            assert open(path, 'rb').read() == data, path + ': not what tools/replay.py makes of the list'
+        if words == ['--check'] and asked([call for call, _ in pairs]) != [answer for _, answer in pairs]:
+            sys.exit(LIST + ':1: not what the oracle answers')
+        for path, data in zip((STDIN, STDOUT), files()):
+            with open(path, 'rb') as f:
+                if f.read() != data:
+                    sys.exit(path + ':1: not what tools/replay.py makes of ' + LIST)
         print('%d calls' % len(pairs))
     else:
-        sys.exit('usage: tools/replay.py [--list | --check]')
+        sys.exit('usage: tools/replay.py [--list | --same | --check]')
 
 
 main(sys.argv[1:])

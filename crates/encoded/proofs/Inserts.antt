@@ -86,7 +86,7 @@ fits-wide f a b h k =
     let v = under a b k in
     true-says (says-fits f b) (record { segments = omega (arith, u .segments, v .segments); views = omega (arith, u .views, v .views); runs = omega (arith, u .runs, v .runs); borrows = omega (arith, u .borrows, v .borrows); ids = omega (arith, u .ids, v .ids); bytes = omega (arith, u .bytes, v .bytes) })
 
-full-too : (lim : Limits) (room big f : Fill) → fits (lim .fill) big ≡ true → noRoom lim big f ≡ true → noRoom lim room f ≡ true
+pub full-too : (lim : Limits) (room big f : Fill) → fits (lim .fill) big ≡ true → noRoom lim big f ≡ true → noRoom lim room f ≡ true
 unfolding noRoom
 full-too lim room big f w h = go (fits f (lim .fill)) refl h
   where

@@ -62,7 +62,8 @@ pub enum Rows {
 }
 
 // Whether the working tables have room for any manifest within L1.
-fn has_tables(
+// inner
+pub fn has_tables(
     lim: Limits,
     segments: &[u64],
     views: &[u64],
@@ -85,7 +86,8 @@ fn has_tables(
 }
 
 // Fills the working tables, which have room for any manifest within L1.
-fn rows_of(
+// inner
+pub fn rows_of(
     lim: Limits,
     s: &[u8],
     segments: &mut [u64],
@@ -527,7 +529,8 @@ fn insert_in(
 }
 
 // Whether the result tables have room for any manifest within L1.
-fn has_results(
+// inner
+pub fn has_results(
     lim: Limits,
     out_segments: &[u64],
     out_views: &[u64],

@@ -1,8 +1,8 @@
 -- What the numbers that go in stand for.
 use Prim.Native.Nat.{ℕ}
-use mathlib.Core.Bool.{Bool, _||_}
+use mathlib.Core.Bool.{Bool, not, _&&_, _||_}
 use mathlib.Core.List.{List}
-use lib.Dec.{ltb}
+use lib.Dec.{ltb, eqb}
 use Rattle.keys.specs.Pick.{pick}
 use Rattle.keys.specs.declared.Range.{Range}
 use Rattle.records.specs.Row.{at, boundAt}
@@ -12,7 +12,13 @@ use Rattle.records.specs.declared.Fill.{Fill}
 use Rattle.records.specs.declared.Refusal.the-variants.{OverLimit}
 use Rattle.segments.specs.declared.Selected.{Selected}
 use Rattle.segments.specs.declared.Selected.the-variants.{Refused}
+use Rattle.project_ranges.specs.declared.Global.{Global}
+use Rattle.project_ranges.specs.declared.Global.the-variants.{Unset, Set}
+use Rattle.project_ranges.specs.declared.Filter.{Filter}
+use Rattle.project_ranges.specs.declared.Filter.the-variants.{All, Only}
+use Rattle.project_ranges.specs.declared.ProjectionConfig.{ProjectionConfig}
 use Rattle.encoded.specs.Select.{selectOf}
+use Rattle.encoded_project.specs.Project.{Outcome, refusedTo, projectTo}
 
 -- the six numbers of a room
 abbrev pub roomFill : List ℕ → Fill
@@ -29,3 +35,26 @@ oddOf r = ltb 2 (at r 0) || ltb 2 (at r 3)
 -- "2 | .. bound .. over its limit": a kind that stands for nothing is over its limit too
 unfoldable pub selectBy : List ℕ → List ℕ → List ℕ → Lent → Selected
 selectBy r s args w = pick (oddOf r) (Refused OverLimit) (selectOf limits01 s args (rangeArg r) w)
+
+-- a flag: 0 is off, any other number on
+abbrev pub isOn : ℕ → Bool
+isOn x = not (eqb x 0)
+
+abbrev pub globalArg : ℕ → List ℕ → Global
+globalArg flag r = pick (isOn flag) (Set (rangeArg r)) Unset
+
+-- "The filter is a flag for the unsegmented tree and a 64-bit mask"
+abbrev pub filterArg : ℕ → ℕ → ℕ → Filter
+filterArg flag keeps mask = pick (isOn flag) (Only (isOn keeps) mask) All
+
+-- five numbers: whether there is a global range, whether there is a filter, its flag and its mask, whether there is a table of own ranges
+abbrev pub configArg : List ℕ → List ℕ → ProjectionConfig
+configArg f r = record { «global_range» = globalArg (at f 0) r; «segment_filter» = filterArg (at f 1) (at f 2) (at f 3); «segment_projection» = isOn (at f 4) }
+
+-- "2 | .. bound .. over its limit": of the global range too
+abbrev pub oddGlobal : List ℕ → List ℕ → Bool
+oddGlobal f r = isOn (at f 0) && oddOf r
+
+unfoldable pub projectBy : List ℕ → List ℕ → List ℕ → List ℕ → List ℕ → Fill → Lent → Lent → List ℕ → List ℕ → List ℕ → Outcome
+projectBy f r s args own room w t used pool out =
+    pick (oddGlobal f r) (refusedTo out OverLimit) (projectTo limits01 s args (configArg f r) own room w t used pool out)

@@ -4,6 +4,7 @@ use mathlib.Core.List.{List}
 use lib.ListN.{getD}
 use Rattle.manifest_write.specs.Answer.{Outcome, written}
 use Rattle.encoded.specs.Insert.{Outcome as Inserts, inserted}
+use Rattle.encoded_project.specs.Project.{Outcome as Projects, projected}
 use Rattle.exports.specs.declared.Answer.{Answer}
 
 -- the numbers of an answer, in order; 0 where it has no more
@@ -22,3 +23,7 @@ wroteReply o = record { answer = told (written (o .answer)); out = o .out }
 -- 0, how the prefix's segment came to be, its index and how many bytes were written, or the refusal
 abbrev pub insertReply : Inserts → Reply
 insertReply o = record { answer = told (inserted (o .answer)); out = o .out }
+
+-- 0, how many segments the mask names and how many bytes were written, or the refusal
+abbrev pub projectReply : Projects → Reply
+projectReply o = record { answer = told (projected (o .answer)); out = o .out }

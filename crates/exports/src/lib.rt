@@ -1,9 +1,15 @@
 // The face for programs in other languages: encoded manifests, plain bytes and numbers in, numbers and encoded bytes out. All memory
 // is lent by the caller; what the working tables hold after a call is of no use.
+use borrows::Owned;
 use encoded::InsertedTo;
+use encoded_project::ProjectedTo;
+use ids::Uuid;
 use keys::Bound;
 use keys::Range;
 use manifest_write::Written;
+use project_ranges::Filter;
+use project_ranges::Global;
+use project_ranges::ProjectionConfig;
 use records::Fill;
 use records::Refusal;
 use records::limits_01;
@@ -18,14 +24,22 @@ ghost use Rattle.records.specs.Limits.{limits01};
 ghost use Rattle.records.specs.Refusals.{refusal};
 ghost use Rattle.segments.specs.Lookup.{looked};
 ghost use Rattle.segments.specs.Select.{selected};
+ghost use Rattle.borrows.specs.Clone.{uuidsOf};
+ghost use Rattle.borrows.specs.Answer.{ownedSays};
 ghost use Rattle.manifest_write.specs.Answer.{written};
 ghost use Rattle.manifest_rows.specs.Stored.{lent};
 ghost use Rattle.encoded.specs.Read.{readTo};
 ghost use Rattle.encoded.specs.Lookup.{lookupOf};
 ghost use Rattle.encoded.specs.Select.{selectOf};
 ghost use Rattle.encoded.specs.Insert.{inserted, insertTo};
-ghost use Rattle.exports.specs.Replies.{told, wroteReply, insertReply};
-ghost use Rattle.exports.specs.Arguments.{roomFill, rangeArg, oddOf, selectBy};
+ghost use Rattle.encoded_merge.specs.Merge.{mergeTo};
+ghost use Rattle.encoded_merge.specs.declared.Side.the-variants.{Writer, Compactor};
+ghost use Rattle.encoded_borrows.specs.Owned.{ownedTo};
+ghost use Rattle.encoded_borrows.specs.Clone.{cloneTo};
+ghost use Rattle.encoded_project.specs.Project.{projected};
+ghost use Rattle.exports.specs.Replies.{told, wroteReply, insertReply, projectReply};
+ghost use Rattle.exports.specs.Arguments.{roomFill, rangeArg, oddOf, selectBy, globalArg, filterArg, configArg, oddGlobal, projectBy};
+ghost use Rattle.exports.specs.Borrows.{uuidArg, ownedReply};
 
 // ---- what goes in and out
 
@@ -64,7 +78,8 @@ fn bound_arg(kind: u64, at: usize, len: usize) -> Bound
 }
 
 // The three numbers of the start, then those of the end.
-fn range_arg(r: &[u64; 6]) -> Range
+// inner
+pub fn range_arg(r: &[u64; 6]) -> Range
     ensures { λ a. ⌜ a ≡ rangeArg (now (r .entry)) ⌝ }
 {
     Range {
@@ -74,7 +89,8 @@ fn range_arg(r: &[u64; 6]) -> Range
 }
 
 // Whether a bound has a kind that stands for nothing.
-fn is_odd(r: &[u64; 6]) -> bool
+// inner
+pub fn is_odd(r: &[u64; 6]) -> bool
     ensures { λ a. ⌜ a ≡ oddOf (now (r .entry)) ⌝ }
 {
     if 2 < r[0] {
@@ -83,7 +99,52 @@ fn is_odd(r: &[u64; 6]) -> bool
     2 < r[3]
 }
 
-fn refused_answer(x: Refusal) -> Answer
+// The global range, where there is one.
+fn global_arg(flag: u64, r: &[u64; 6]) -> Global
+    ensures { λ a. ⌜ a ≡ globalArg flag (now (r .entry)) ⌝ }
+{
+    if flag == 0 {
+        return Global::Unset;
+    }
+    Global::Set(range_arg(r))
+}
+
+// The filter, where there is one.
+fn filter_arg(flag: u64, keeps: u64, mask: u64) -> Filter
+    ensures { λ a. ⌜ a ≡ filterArg flag keeps mask ⌝ }
+{
+    if flag == 0 {
+        return Filter::All;
+    }
+    Filter::Only(keeps != 0, mask)
+}
+
+// What a projection is asked for: whether there is a global range, whether there is a filter, its flag and its mask, and whether
+// there is a table of own ranges.
+fn config_arg(f: &[u64; 5], r: &[u64; 6]) -> ProjectionConfig
+    ensures { λ a. ⌜ a ≡ configArg (now (f .entry)) (now (r .entry)) ⌝ }
+{
+    let global_range = global_arg(f[0], r);
+    let segment_filter = filter_arg(f[1], f[2], f[3]);
+    ProjectionConfig {
+        global_range,
+        segment_filter,
+        segment_projection: f[4] != 0,
+    }
+}
+
+// Whether there is a global range with a kind that stands for nothing.
+fn global_odd(f: &[u64; 5], r: &[u64; 6]) -> bool
+    ensures { λ a. ⌜ a ≡ oddGlobal (now (f .entry)) (now (r .entry)) ⌝ }
+{
+    if f[0] == 0 {
+        return false;
+    }
+    is_odd(r)
+}
+
+// inner
+pub fn refused_answer(x: Refusal) -> Answer
     ensures { λ r. ⌜ r ≡ told (refusal x) ⌝ }
 {
     let t = tell(x);
@@ -95,7 +156,8 @@ fn refused_answer(x: Refusal) -> Answer
     }
 }
 
-fn written_answer(x: Written) -> Answer
+// inner
+pub fn written_answer(x: Written) -> Answer
     ensures { λ r. ⌜ r ≡ told (written x) ⌝ }
 {
     match x {
@@ -109,7 +171,8 @@ fn written_answer(x: Written) -> Answer
     }
 }
 
-fn looked_answer(x: Looked) -> Answer
+// inner
+pub fn looked_answer(x: Looked) -> Answer
     ensures { λ r. ⌜ r ≡ told (looked x) ⌝ }
 {
     match x {
@@ -135,7 +198,8 @@ fn looked_answer(x: Looked) -> Answer
     }
 }
 
-fn selected_answer(x: Selected) -> Answer
+// inner
+pub fn selected_answer(x: Selected) -> Answer
     ensures { λ r. ⌜ r ≡ told (selected x) ⌝ }
 {
     match x {
@@ -172,6 +236,20 @@ fn inserted_answer(x: InsertedTo) -> Answer
             third: n,
         },
         InsertedTo::Refused(r) => refused_answer(r),
+    }
+}
+
+fn projected_answer(x: ProjectedTo) -> Answer
+    ensures { λ r. ⌜ r ≡ told (projected x) ⌝ }
+{
+    match x {
+        ProjectedTo::Done(names, n) => Answer {
+            number: 0,
+            first: names,
+            second: n,
+            third: 0,
+        },
+        ProjectedTo::Refused(r) => refused_answer(r),
     }
 }
 
@@ -282,4 +360,247 @@ pub extern "C" fn manifest_insert(
         out,
     );
     inserted_answer(x)
+}
+
+// The segments of the writer's manifest, each tree merged with the compactor's: 0, and how many bytes of `out` the encoded list fills.
+// The tables whose names begin with `both` have room for two manifests, `pool` for the bytes of one.
+#[no_mangle]
+pub extern "C" fn manifest_merge_from_writer(
+    writer: &[u8],
+    compactor: &[u8],
+    room: &[u64; 6],
+    segments: &mut [u64],
+    views: &mut [u64],
+    runs: &mut [u64],
+    borrows: &mut [u64],
+    ids: &mut [u64],
+    both_segments: &mut [u64],
+    both_views: &mut [u64],
+    both_runs: &mut [u64],
+    both_borrows: &mut [u64],
+    both_ids: &mut [u64],
+    both_pool: &mut [u8],
+    pool: &mut [u8],
+    out: &mut [u8],
+) -> Answer
+    ensures { λ r. ⌜ record { answer = r; out = now (out .exit) } ≡ wroteReply (mergeTo Writer limits01 (now (writer .entry)) (now (compactor .entry)) (roomFill (now (room .entry))) (lent (now (segments .entry)) (now (views .entry)) (now (runs .entry)) (now (borrows .entry)) (now (ids .entry)) []) (lent (now («both_segments» .entry)) (now («both_views» .entry)) (now («both_runs» .entry)) (now («both_borrows» .entry)) (now («both_ids» .entry)) (now («both_pool» .entry))) (now (pool .entry)) (now (out .entry))) ⌝ }
+{
+    let lim = limits_01();
+    let most = room_fill(room);
+    let w = encoded_merge::merge_from_writer(
+        lim,
+        writer,
+        compactor,
+        most,
+        segments,
+        views,
+        runs,
+        borrows,
+        ids,
+        both_segments,
+        both_views,
+        both_runs,
+        both_borrows,
+        both_ids,
+        both_pool,
+        pool,
+        out,
+    );
+    written_answer(w)
+}
+
+// The segments of either manifest that are not empty once merged: the same.
+#[no_mangle]
+pub extern "C" fn manifest_merge_from_compactor(
+    writer: &[u8],
+    compactor: &[u8],
+    room: &[u64; 6],
+    segments: &mut [u64],
+    views: &mut [u64],
+    runs: &mut [u64],
+    borrows: &mut [u64],
+    ids: &mut [u64],
+    both_segments: &mut [u64],
+    both_views: &mut [u64],
+    both_runs: &mut [u64],
+    both_borrows: &mut [u64],
+    both_ids: &mut [u64],
+    both_pool: &mut [u8],
+    pool: &mut [u8],
+    out: &mut [u8],
+) -> Answer
+    ensures { λ r. ⌜ record { answer = r; out = now (out .exit) } ≡ wroteReply (mergeTo Compactor limits01 (now (writer .entry)) (now (compactor .entry)) (roomFill (now (room .entry))) (lent (now (segments .entry)) (now (views .entry)) (now (runs .entry)) (now (borrows .entry)) (now (ids .entry)) []) (lent (now («both_segments» .entry)) (now («both_views» .entry)) (now («both_runs» .entry)) (now («both_borrows» .entry)) (now («both_ids» .entry)) (now («both_pool» .entry))) (now (pool .entry)) (now (out .entry))) ⌝ }
+{
+    let lim = limits_01();
+    let most = room_fill(room);
+    let w = encoded_merge::merge_from_compactor(
+        lim,
+        writer,
+        compactor,
+        most,
+        segments,
+        views,
+        runs,
+        borrows,
+        ids,
+        both_segments,
+        both_views,
+        both_runs,
+        both_borrows,
+        both_ids,
+        both_pool,
+        pool,
+        out,
+    );
+    written_answer(w)
+}
+
+// ---- owned ids and clone
+
+// An id's two words, the high one first.
+fn uuid_arg(c: &[u64; 2]) -> Uuid
+    ensures { λ u. ⌜ u ≡ uuidArg (now (c .entry)) ⌝ }
+{
+    Uuid(c[0], c[1])
+}
+
+fn owned_answer(x: Owned) -> Answer
+    ensures { λ r. ⌜ r ≡ told (ownedSays x) ⌝ }
+{
+    match x {
+        Owned::Done(n) => Answer {
+            number: 0,
+            first: n,
+            second: 0,
+            third: 0,
+        },
+        Owned::Refused(r) => refused_answer(r),
+    }
+}
+
+// The ids that a manifest uses and borrows from no one: 0, and how many ids stand at the front of `out`, two words each.
+#[no_mangle]
+pub extern "C" fn manifest_owned(
+    s: &[u8],
+    segments: &mut [u64],
+    views: &mut [u64],
+    runs: &mut [u64],
+    borrows: &mut [u64],
+    ids: &mut [u64],
+    out: &mut [u64],
+) -> Answer
+    ensures { λ r. ⌜ record { answer = r; out = now (out .exit) } ≡ ownedReply (ownedTo limits01 (now (s .entry)) (lent (now (segments .entry)) (now (views .entry)) (now (runs .entry)) (now (borrows .entry)) (now (ids .entry)) []) (now (out .entry))) ⌝ }
+{
+    let lim = limits_01();
+    let x = encoded_borrows::owned(lim, s, segments, views, runs, borrows, ids, out);
+    owned_answer(x)
+}
+
+// A manifest that borrows all it uses, from the parent at `path` or from those that the parent borrows from: 0, and how many bytes
+// of `out` it fills. A fresh UUID for each of its borrows stands in `fresh`, two words each.
+#[no_mangle]
+pub extern "C" fn manifest_clone(
+    s: &[u8],
+    path: &[u8],
+    checkpoint: &[u64; 2],
+    fresh: &[u64],
+    room: &[u64; 6],
+    segments: &mut [u64],
+    views: &mut [u64],
+    runs: &mut [u64],
+    borrows: &mut [u64],
+    ids: &mut [u64],
+    out_segments: &mut [u64],
+    out_views: &mut [u64],
+    out_runs: &mut [u64],
+    out_borrows: &mut [u64],
+    out_ids: &mut [u64],
+    out_pool: &mut [u8],
+    out: &mut [u8],
+) -> Answer
+    ensures { λ r. ⌜ record { answer = r; out = now (out .exit) } ≡ wroteReply (cloneTo limits01 (now (s .entry)) (now (path .entry)) (uuidArg (now (checkpoint .entry))) (uuidsOf (now (fresh .entry))) (roomFill (now (room .entry))) (lent (now (segments .entry)) (now (views .entry)) (now (runs .entry)) (now (borrows .entry)) (now (ids .entry)) []) (lent (now («out_segments» .entry)) (now («out_views» .entry)) (now («out_runs» .entry)) (now («out_borrows» .entry)) (now («out_ids» .entry)) (now («out_pool» .entry))) (now (out .entry))) ⌝ }
+{
+    let lim = limits_01();
+    let most = room_fill(room);
+    let parent = uuid_arg(checkpoint);
+    let w = encoded_borrows::clone(
+        lim,
+        s,
+        path,
+        parent,
+        fresh,
+        most,
+        segments,
+        views,
+        runs,
+        borrows,
+        ids,
+        out_segments,
+        out_views,
+        out_runs,
+        out_borrows,
+        out_ids,
+        out_pool,
+        out,
+    );
+    written_answer(w)
+}
+
+// A manifest narrowed to ranges and a filter: 0, how many segments the mask names, and how many bytes of `out` the result fills. The
+// bounds of the global range and of the own ranges, six words each, are places in `args`. The tables whose names begin with `in` have
+// room for one manifest, their pool for the bytes of `args` too, `used` for the ids of its views, `pool` for the bytes of the result.
+#[no_mangle]
+pub extern "C" fn manifest_project(
+    s: &[u8],
+    args: &[u8],
+    asked: &[u64; 5],
+    global: &[u64; 6],
+    own: &[u64],
+    room: &[u64; 6],
+    segments: &mut [u64],
+    views: &mut [u64],
+    runs: &mut [u64],
+    borrows: &mut [u64],
+    ids: &mut [u64],
+    in_segments: &mut [u64],
+    in_views: &mut [u64],
+    in_runs: &mut [u64],
+    in_borrows: &mut [u64],
+    in_ids: &mut [u64],
+    in_pool: &mut [u8],
+    used: &mut [u64],
+    pool: &mut [u8],
+    out: &mut [u8],
+) -> Answer
+    ensures { λ r. ⌜ record { answer = r; out = now (out .exit) } ≡ projectReply (projectBy (now (asked .entry)) (now (global .entry)) (now (s .entry)) (now (args .entry)) (now (own .entry)) (roomFill (now (room .entry))) (lent (now (segments .entry)) (now (views .entry)) (now (runs .entry)) (now (borrows .entry)) (now (ids .entry)) []) (lent (now («in_segments» .entry)) (now («in_views» .entry)) (now («in_runs» .entry)) (now («in_borrows» .entry)) (now («in_ids» .entry)) (now («in_pool» .entry))) (now (used .entry)) (now (pool .entry)) (now (out .entry))) ⌝ }
+{
+    if global_odd(asked, global) {
+        return refused_answer(Refusal::OverLimit);
+    }
+    let lim = limits_01();
+    let c = config_arg(asked, global);
+    let most = room_fill(room);
+    let x = encoded_project::project(
+        lim,
+        s,
+        args,
+        c,
+        own,
+        most,
+        segments,
+        views,
+        runs,
+        borrows,
+        ids,
+        in_segments,
+        in_views,
+        in_runs,
+        in_borrows,
+        in_ids,
+        in_pool,
+        used,
+        pool,
+        out,
+    );
+    projected_answer(x)
 }

@@ -40,7 +40,7 @@ most f = f .segments * 53 + f .views * 62 + f .runs * 15 + f .borrows * 47 + f .
 
 -- ---- arrays of parts
 
-abbrev total : List (List ℕ) → ℕ
+abbrev pub total : List (List ℕ) → ℕ
 total [] = 0
 total (x ∷ l) = length x + total l
 
@@ -50,7 +50,7 @@ concat-total [] = refl
 concat-total (x ∷ l) = length-append x (concat l) ∙ ap (λ (n : ℕ). length x + n) (concat-total l)
 
 -- a record of fewer than 16 parts
-record-total : (l : List (List ℕ)) → length l < 16 → length (groupBytes l) ≡ 1 + total l
+pub record-total : (l : List (List ℕ)) → length l < 16 → length (groupBytes l) ≡ 1 + total l
 record-total l h = omega (arith, length-append (arrayBytes (length l)) (concat l), array-size (length l) h, concat-total l)
 
 -- a list of records

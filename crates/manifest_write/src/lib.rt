@@ -492,7 +492,8 @@ fn add_numbers(m: ManifestRow, out: &mut [u8], at: usize) -> usize
     add_uint(m.recent_snapshot_min_seq, out, p3)
 }
 
-fn add_manifest(
+// inner
+pub fn add_manifest(
     m: ManifestRow,
     segments: &[u64],
     views: &[u64],

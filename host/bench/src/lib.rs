@@ -3,11 +3,14 @@
 
 mod cases;
 mod clock;
+mod growth;
+#[cfg(feature = "msgpack")]
 mod msgpack;
 #[cfg(feature = "program")]
 mod program;
+mod tables;
 
-use cases::Case;
+use cases::{Both, Case};
 
 /// The table, as Markdown. `near` is the sample near every limit.
 pub fn table(near: &[u8]) -> String {
@@ -15,26 +18,27 @@ pub fn table(near: &[u8]) -> String {
         |---|---|---|---|---|---|---|---|\n"
         .to_string();
     for (name, manifest) in [("small", cases::small()), ("near every limit", near.to_vec())] {
-        for case in cases::all(&manifest) {
-            text += &row(name, case);
+        for Case { operation, whole, alone } in cases::all(&manifest) {
+            text += &format!("| {operation} | {name} | {} | {} |\n", cells(whole), cells(alone));
         }
     }
     text
 }
 
-fn row(manifest: &str, case: Case) -> String {
-    let Case { operation, mut port, mut original, port_alone, original_alone } = case;
-    let whole = pair(Some(clock::best(&mut port)), Some(clock::best(&mut original)));
-    let alone = pair(
-        port_alone.map(|mut work| clock::best(&mut work)),
-        original_alone.map(|mut work| clock::best(&mut work)),
-    );
-    format!("| {operation} | {manifest} | {whole} | {alone} |\n")
+/// How the times grow with the manifest.
+pub fn growth() -> String {
+    growth::table()
 }
 
 /// Two times and their ratio, where they are known.
-fn pair(port: Option<f64>, other: Option<f64>) -> String {
+fn cells(both: Option<Both>) -> String {
     let time = |time: Option<f64>| time.map_or("-".to_string(), |time| format!("{:.2} µs", time / 1000.0));
+    let (port, other) = match both {
+        None => (None, None),
+        Some(Both { mut port, other }) => {
+            (Some(clock::best(&mut port)), other.map(|mut work| clock::best(&mut work)))
+        }
+    };
     let ratio = port.zip(other).map_or("-".to_string(), |(port, other)| format!("{:.2}", port / other));
     format!("{} | {} | {ratio}", time(port), time(other))
 }

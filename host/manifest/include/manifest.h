@@ -10,7 +10,7 @@
  *  - Nothing is kept from call to call, nothing is allocated, every call ends.
  *
  * Refusals come in this order: 2 for all that can be judged without a manifest; 4 if a working table is too short; 18, 19, 1
- * manifest by manifest; 5 and the operation's own; 4 for the room and for `out`.
+ * manifest by manifest; 5 and the operation's own; 15; 4 for the room and for `out`; 16.
  */
 #ifndef MANIFEST_H
 #define MANIFEST_H
@@ -151,6 +151,134 @@ struct manifest_answer manifest_insert(
     uint64_t *out_borrows, size_t out_borrows_len,
     uint64_t *out_ids, size_t out_ids_len,
     uint8_t *out_pool, size_t out_pool_len,
+    uint8_t *out, size_t out_len);
+
+/* The SST ids that a manifest uses and borrows from no one, in record order, repeats kept, at the front of `out`: two words each,
+ * the high one first. `first`: how many ids. */
+struct manifest_answer manifest_owned(
+    const uint8_t *s, size_t s_len,
+    uint64_t *segments, size_t segments_len,
+    uint64_t *views, size_t views_len,
+    uint64_t *runs, size_t runs_len,
+    uint64_t *borrows, size_t borrows_len,
+    uint64_t *ids, size_t ids_len,
+    uint64_t *out, size_t out_len);
+
+/* A manifest that borrows all it uses, from the parent at `path` or from those that the parent borrows from, at the front of `out`.
+ * Ids are two words each, the high one first: the parent's checkpoint, and the fresh UUIDs, one for each borrow of the result.
+ * `first`: how many bytes. */
+struct manifest_answer manifest_clone(
+    const uint8_t *s, size_t s_len,
+    const uint8_t *path, size_t path_len,
+    const uint64_t checkpoint[2],
+    const uint64_t *fresh, size_t fresh_len,
+    const struct manifest_room *room,
+    uint64_t *segments, size_t segments_len,
+    uint64_t *views, size_t views_len,
+    uint64_t *runs, size_t runs_len,
+    uint64_t *borrows, size_t borrows_len,
+    uint64_t *ids, size_t ids_len,
+    uint64_t *out_segments, size_t out_segments_len,
+    uint64_t *out_views, size_t out_views_len,
+    uint64_t *out_runs, size_t out_runs_len,
+    uint64_t *out_borrows, size_t out_borrows_len,
+    uint64_t *out_ids, size_t out_ids_len,
+    uint8_t *out_pool, size_t out_pool_len,
+    uint8_t *out, size_t out_len);
+
+/* The working tables that hold two manifests at a time, and the pool of the list that comes of them. Some 195 kB. */
+struct manifest_both {
+    uint64_t segments[2 * MANIFEST_SEGMENT_WORDS];
+    uint64_t views[2 * MANIFEST_VIEW_WORDS];
+    uint64_t runs[2 * MANIFEST_RUN_WORDS];
+    uint64_t borrows[2 * MANIFEST_BORROW_WORDS];
+    uint64_t ids[2 * MANIFEST_ID_WORDS];
+    uint8_t pool[2 * MANIFEST_BYTES];
+    uint8_t result[MANIFEST_BYTES];
+};
+
+/* A struct manifest_both behind a pointer, as arguments of a call. */
+#define MANIFEST_BOTH(b)                                                                             \
+    (b)->segments, 2 * MANIFEST_SEGMENT_WORDS, (b)->views, 2 * MANIFEST_VIEW_WORDS, (b)->runs,       \
+        2 * MANIFEST_RUN_WORDS, (b)->borrows, 2 * MANIFEST_BORROW_WORDS, (b)->ids,                   \
+        2 * MANIFEST_ID_WORDS, (b)->pool, 2 * MANIFEST_BYTES, (b)->result, MANIFEST_BYTES
+
+/* The writer's segments, each tree merged with the compactor's: the list is written at the front of `out`, an array of segment
+ * records. `first`: how many bytes. Data that only the compactor has is refusal 6. Of `room` the borrows and ids are not asked for. */
+struct manifest_answer manifest_merge_from_writer(
+    const uint8_t *writer, size_t writer_len,
+    const uint8_t *compactor, size_t compactor_len,
+    const struct manifest_room *room,
+    uint64_t *segments, size_t segments_len,
+    uint64_t *views, size_t views_len,
+    uint64_t *runs, size_t runs_len,
+    uint64_t *borrows, size_t borrows_len,
+    uint64_t *ids, size_t ids_len,
+    uint64_t *both_segments, size_t both_segments_len,
+    uint64_t *both_views, size_t both_views_len,
+    uint64_t *both_runs, size_t both_runs_len,
+    uint64_t *both_borrows, size_t both_borrows_len,
+    uint64_t *both_ids, size_t both_ids_len,
+    uint8_t *both_pool, size_t both_pool_len,
+    uint8_t *pool, size_t pool_len,
+    uint8_t *out, size_t out_len);
+
+/* The segments of either manifest that are not empty once merged, in the same way. Kept prefixes that nest are refusal 7. */
+struct manifest_answer manifest_merge_from_compactor(
+    const uint8_t *writer, size_t writer_len,
+    const uint8_t *compactor, size_t compactor_len,
+    const struct manifest_room *room,
+    uint64_t *segments, size_t segments_len,
+    uint64_t *views, size_t views_len,
+    uint64_t *runs, size_t runs_len,
+    uint64_t *borrows, size_t borrows_len,
+    uint64_t *ids, size_t ids_len,
+    uint64_t *both_segments, size_t both_segments_len,
+    uint64_t *both_views, size_t both_views_len,
+    uint64_t *both_runs, size_t both_runs_len,
+    uint64_t *both_borrows, size_t both_borrows_len,
+    uint64_t *both_ids, size_t both_ids_len,
+    uint8_t *both_pool, size_t both_pool_len,
+    uint8_t *pool, size_t pool_len,
+    uint8_t *out, size_t out_len);
+
+/* What a projection is asked for. A flag is off if it is 0. */
+struct manifest_asked {
+    uint64_t has_global;
+    uint64_t has_filter;
+    uint64_t keeps_unsegmented; /* of the filter, and so is the mask: bit i keeps segment i */
+    uint64_t mask;
+    uint64_t has_own;
+};
+
+/* The words of the list of ids in use, one id for each view. */
+enum { MANIFEST_USED_WORDS = 1024 };
+
+/* A manifest narrowed to a global range, to a filter, and to own ranges: that of the unsegmented tree, then one for each segment, each a
+ * struct manifest_range of six words in `own`; what is missing is unbounded, what is too many is not read. All bounds are places in `args`.
+ * The result is written at the front of `out`. `first`: how many segments the mask names. `second`: how many bytes.
+ * The tables whose names begin with `in` are those of a struct manifest_result but for `in_pool`, which has args_len bytes more. The own
+ * ranges that count, one and one more for each segment, are judged between 19 and 1; 10, then 8 and 9 come after 5. */
+struct manifest_answer manifest_project(
+    const uint8_t *s, size_t s_len,
+    const uint8_t *args, size_t args_len,
+    const struct manifest_asked *asked,
+    const struct manifest_range *global,
+    const uint64_t *own, size_t own_len,
+    const struct manifest_room *room,
+    uint64_t *segments, size_t segments_len,
+    uint64_t *views, size_t views_len,
+    uint64_t *runs, size_t runs_len,
+    uint64_t *borrows, size_t borrows_len,
+    uint64_t *ids, size_t ids_len,
+    uint64_t *in_segments, size_t in_segments_len,
+    uint64_t *in_views, size_t in_views_len,
+    uint64_t *in_runs, size_t in_runs_len,
+    uint64_t *in_borrows, size_t in_borrows_len,
+    uint64_t *in_ids, size_t in_ids_len,
+    uint8_t *in_pool, size_t in_pool_len,
+    uint64_t *used, size_t used_len,
+    uint8_t *pool, size_t pool_len,
     uint8_t *out, size_t out_len);
 
 #ifdef __cplusplus

@@ -19,6 +19,14 @@ pub mod c {
         pub third: usize,
     }
 
+    /// The entry point of a merge.
+    pub type Merge = unsafe extern "C" fn(
+        *const u8, usize, *const u8, usize, *const [u64; 6],
+        *mut u64, usize, *mut u64, usize, *mut u64, usize, *mut u64, usize, *mut u64, usize,
+        *mut u64, usize, *mut u64, usize, *mut u64, usize, *mut u64, usize, *mut u64, usize, *mut u8, usize,
+        *mut u8, usize, *mut u8, usize,
+    ) -> Answer;
+
     extern "C" {
         pub fn manifest_read(
             s: *const u8, s_len: usize,
@@ -69,6 +77,97 @@ pub mod c {
             out_pool: *mut u8, out_pool_len: usize,
             out: *mut u8, out_len: usize,
         ) -> Answer;
+
+        pub fn manifest_merge_from_writer(
+            writer: *const u8, writer_len: usize,
+            compactor: *const u8, compactor_len: usize,
+            room: *const [u64; 6],
+            segments: *mut u64, segments_len: usize,
+            views: *mut u64, views_len: usize,
+            runs: *mut u64, runs_len: usize,
+            borrows: *mut u64, borrows_len: usize,
+            ids: *mut u64, ids_len: usize,
+            both_segments: *mut u64, both_segments_len: usize,
+            both_views: *mut u64, both_views_len: usize,
+            both_runs: *mut u64, both_runs_len: usize,
+            both_borrows: *mut u64, both_borrows_len: usize,
+            both_ids: *mut u64, both_ids_len: usize,
+            both_pool: *mut u8, both_pool_len: usize,
+            pool: *mut u8, pool_len: usize,
+            out: *mut u8, out_len: usize,
+        ) -> Answer;
+
+        pub fn manifest_merge_from_compactor(
+            writer: *const u8, writer_len: usize,
+            compactor: *const u8, compactor_len: usize,
+            room: *const [u64; 6],
+            segments: *mut u64, segments_len: usize,
+            views: *mut u64, views_len: usize,
+            runs: *mut u64, runs_len: usize,
+            borrows: *mut u64, borrows_len: usize,
+            ids: *mut u64, ids_len: usize,
+            both_segments: *mut u64, both_segments_len: usize,
+            both_views: *mut u64, both_views_len: usize,
+            both_runs: *mut u64, both_runs_len: usize,
+            both_borrows: *mut u64, both_borrows_len: usize,
+            both_ids: *mut u64, both_ids_len: usize,
+            both_pool: *mut u8, both_pool_len: usize,
+            pool: *mut u8, pool_len: usize,
+            out: *mut u8, out_len: usize,
+        ) -> Answer;
+
+        pub fn manifest_owned(
+            s: *const u8, s_len: usize,
+            segments: *mut u64, segments_len: usize,
+            views: *mut u64, views_len: usize,
+            runs: *mut u64, runs_len: usize,
+            borrows: *mut u64, borrows_len: usize,
+            ids: *mut u64, ids_len: usize,
+            out: *mut u64, out_len: usize,
+        ) -> Answer;
+
+        pub fn manifest_clone(
+            s: *const u8, s_len: usize,
+            path: *const u8, path_len: usize,
+            checkpoint: *const [u64; 2],
+            fresh: *const u64, fresh_len: usize,
+            room: *const [u64; 6],
+            segments: *mut u64, segments_len: usize,
+            views: *mut u64, views_len: usize,
+            runs: *mut u64, runs_len: usize,
+            borrows: *mut u64, borrows_len: usize,
+            ids: *mut u64, ids_len: usize,
+            out_segments: *mut u64, out_segments_len: usize,
+            out_views: *mut u64, out_views_len: usize,
+            out_runs: *mut u64, out_runs_len: usize,
+            out_borrows: *mut u64, out_borrows_len: usize,
+            out_ids: *mut u64, out_ids_len: usize,
+            out_pool: *mut u8, out_pool_len: usize,
+            out: *mut u8, out_len: usize,
+        ) -> Answer;
+
+        pub fn manifest_project(
+            s: *const u8, s_len: usize,
+            args: *const u8, args_len: usize,
+            asked: *const [u64; 5],
+            global: *const [u64; 6],
+            own: *const u64, own_len: usize,
+            room: *const [u64; 6],
+            segments: *mut u64, segments_len: usize,
+            views: *mut u64, views_len: usize,
+            runs: *mut u64, runs_len: usize,
+            borrows: *mut u64, borrows_len: usize,
+            ids: *mut u64, ids_len: usize,
+            in_segments: *mut u64, in_segments_len: usize,
+            in_views: *mut u64, in_views_len: usize,
+            in_runs: *mut u64, in_runs_len: usize,
+            in_borrows: *mut u64, in_borrows_len: usize,
+            in_ids: *mut u64, in_ids_len: usize,
+            in_pool: *mut u8, in_pool_len: usize,
+            used: *mut u64, used_len: usize,
+            pool: *mut u8, pool_len: usize,
+            out: *mut u8, out_len: usize,
+        ) -> Answer;
     }
 }
 
@@ -88,6 +187,13 @@ impl fmt::Display for Refusal {
             3 => write!(f, "the prefix nests with that of segment {place}"),
             4 => write!(f, "there is no room for the result"),
             5 => write!(f, "no key is in the range"),
+            6 => write!(f, "segment {place} of the compactor has data that the writer does not know"),
+            7 => write!(f, "kept prefixes nest, from the one at {place} on"),
+            15 => write!(f, "a borrow has no final checkpoint"),
+            16 => write!(f, "there are too few fresh UUIDs"),
+            8 => write!(f, "the own range of tree {place} holds no key"),
+            9 => write!(f, "the own range of tree {place} is not within its prefix"),
+            10 => write!(f, "the filter names segment {place}, which there is not"),
             18 => write!(f, "no well-formed MessagePack from byte {place} on"),
             19 => write!(f, "not a manifest: the value at byte {place} is wrong"),
             number => write!(f, "refusal {number} at {place}"),
@@ -142,6 +248,25 @@ pub enum Insertion<'a> {
     Entered(usize, &'a [u8]),
 }
 
+/// A start and an end.
+pub type Keys<'a> = (Bound<&'a [u8]>, Bound<&'a [u8]>);
+
+/// Which trees are kept: the unsegmented one, and segment i by bit i.
+#[derive(Clone, Copy, Debug, PartialEq, Eq)]
+pub struct Filter {
+    pub unsegmented: bool,
+    pub segments: u64,
+}
+
+/// What a manifest is narrowed to.
+#[derive(Clone, Copy, Debug, Default)]
+pub struct Projection<'a> {
+    pub global: Option<Keys<'a>>,
+    pub filter: Option<Filter>,
+    /// That of the unsegmented tree, then one for each segment.
+    pub own: Option<&'a [Keys<'a>]>,
+}
+
 /// The longest encoded manifest.
 pub const ENCODED: usize = 65_536;
 
@@ -158,7 +283,34 @@ pub struct Lent {
     out_borrows: Vec<u64>,
     out_ids: Vec<u64>,
     out_pool: Vec<u8>,
+    both: Both,
+    /// The bytes of a projection's arguments, and of the manifest behind them.
+    behind: Vec<u8>,
+    used: Vec<u64>,
     out: Vec<u8>,
+}
+
+/// The tables that hold two manifests at a time.
+struct Both {
+    segments: Vec<u64>,
+    views: Vec<u64>,
+    runs: Vec<u64>,
+    borrows: Vec<u64>,
+    ids: Vec<u64>,
+    pool: Vec<u8>,
+}
+
+impl Default for Both {
+    fn default() -> Both {
+        Both {
+            segments: vec![0; 2 * 64 * 12],
+            views: vec![0; 2 * 512 * 16],
+            runs: vec![0; 2 * 128 * 3],
+            borrows: vec![0; 2 * 32 * 9],
+            ids: vec![0; 2 * 512 * 2],
+            pool: vec![0; 2 * 8_192],
+        }
+    }
 }
 
 /// The working tables as the last arguments of a call.
@@ -190,6 +342,9 @@ impl Default for Lent {
             out_borrows: vec![0; 32 * 9],
             out_ids: vec![0; 512 * 2],
             out_pool: vec![0; 8_192],
+            both: Both::default(),
+            behind: vec![0; 8_192],
+            used: vec![0; 512 * 2],
             out: vec![0; ENCODED],
         }
     }
@@ -264,6 +419,117 @@ impl Lent {
             _ => Insertion::Entered(answer.second, &self.out[..answer.third]),
         })
     }
+
+    /// The writer's segments, each merged with the compactor's: the encoded list.
+    pub fn merge_from_writer(&mut self, writer: &[u8], compactor: &[u8], room: &Room) -> Result<&[u8], Refusal> {
+        self.merge(c::manifest_merge_from_writer, writer, compactor, room)
+    }
+
+    /// The segments of either that are not empty once merged.
+    pub fn merge_from_compactor(&mut self, writer: &[u8], compactor: &[u8], room: &Room) -> Result<&[u8], Refusal> {
+        self.merge(c::manifest_merge_from_compactor, writer, compactor, room)
+    }
+
+    fn merge(&mut self, entry: c::Merge, writer: &[u8], compactor: &[u8], room: &Room) -> Result<&[u8], Refusal> {
+        let room = room.numbers();
+        // SAFETY: as in `read`.
+        let answer = unsafe {
+            with_tables!(entry, self, writer.as_ptr(), writer.len(), compactor.as_ptr(), compactor.len(), &room;
+                self.both.segments.as_mut_ptr(), self.both.segments.len(),
+                self.both.views.as_mut_ptr(), self.both.views.len(),
+                self.both.runs.as_mut_ptr(), self.both.runs.len(),
+                self.both.borrows.as_mut_ptr(), self.both.borrows.len(),
+                self.both.ids.as_mut_ptr(), self.both.ids.len(),
+                self.both.pool.as_mut_ptr(), self.both.pool.len(),
+                self.out_pool.as_mut_ptr(), self.out_pool.len(),
+                self.out.as_mut_ptr(), self.out.len())
+        };
+        let answer = good(answer)?;
+        Ok(&self.out[..answer.first])
+    }
+
+    /// The manifest narrowed, and how many segments the filter names.
+    pub fn project(&mut self, manifest: &[u8], wanted: &Projection<'_>, room: &Room) -> Result<(usize, &[u8]), Refusal> {
+        let room = room.numbers();
+        let mut args = vec![];
+        let mut numbers = |(start, end): Keys<'_>| {
+            let ([a, b, c], [d, e, f]) = (bound(start, &mut args), bound(end, &mut args));
+            [a, b, c, d, e, f]
+        };
+        let global = wanted.global.map_or([0; 6], &mut numbers);
+        let own: Vec<u64> = wanted.own.unwrap_or(&[]).iter().flat_map(|keys| numbers(*keys)).collect();
+        let filter = wanted.filter.unwrap_or(Filter { unsegmented: false, segments: 0 });
+        let asked = [
+            wanted.global.is_some().into(),
+            wanted.filter.is_some().into(),
+            filter.unsegmented.into(),
+            filter.segments,
+            wanted.own.is_some().into(),
+        ];
+        self.behind.resize(args.len() + 8_192, 0);
+        // SAFETY: as in `read`.
+        let answer = unsafe {
+            with_tables!(c::manifest_project, self, manifest.as_ptr(), manifest.len(), args.as_ptr(), args.len(),
+                &asked, &global, own.as_ptr(), own.len(), &room;
+                self.out_segments.as_mut_ptr(), self.out_segments.len(),
+                self.out_views.as_mut_ptr(), self.out_views.len(),
+                self.out_runs.as_mut_ptr(), self.out_runs.len(),
+                self.out_borrows.as_mut_ptr(), self.out_borrows.len(),
+                self.out_ids.as_mut_ptr(), self.out_ids.len(),
+                self.behind.as_mut_ptr(), self.behind.len(),
+                self.used.as_mut_ptr(), self.used.len(),
+                self.out_pool.as_mut_ptr(), self.out_pool.len(),
+                self.out.as_mut_ptr(), self.out.len())
+        };
+        let answer = good(answer)?;
+        Ok((answer.first, &self.out[..answer.second]))
+    }
+
+    /// The SST ids that the manifest uses and borrows from no one, in record order, repeats kept.
+    pub fn owned(&mut self, manifest: &[u8], room: &Room) -> Result<Vec<u128>, Refusal> {
+        let places = self.out_ids.len().min(usize::try_from(room.ids).unwrap_or(usize::MAX).saturating_mul(2));
+        // SAFETY: as in `read`.
+        let answer = unsafe {
+            with_tables!(c::manifest_owned, self, manifest.as_ptr(), manifest.len(); self.out_ids.as_mut_ptr(), places)
+        };
+        let answer = good(answer)?;
+        let words = self.out_ids.chunks_exact(2).take(answer.first);
+        Ok(words.map(|id| u128::from(id[0]) << 64 | u128::from(id[1])).collect())
+    }
+
+    /// A manifest that borrows all it uses: from the parent at `path`, at `checkpoint`, or from those that the parent borrows from.
+    /// It takes one fresh UUID for each of its borrows.
+    pub fn cloned(
+        &mut self,
+        manifest: &[u8],
+        path: &[u8],
+        checkpoint: u128,
+        fresh: &[u128],
+        room: &Room,
+    ) -> Result<&[u8], Refusal> {
+        let room = room.numbers();
+        let checkpoint = halves(&checkpoint);
+        let fresh: Vec<u64> = fresh.iter().flat_map(halves).collect();
+        // SAFETY: as in `read`.
+        let answer = unsafe {
+            with_tables!(c::manifest_clone, self, manifest.as_ptr(), manifest.len(), path.as_ptr(), path.len(), &checkpoint,
+                fresh.as_ptr(), fresh.len(), &room;
+                self.out_segments.as_mut_ptr(), self.out_segments.len(),
+                self.out_views.as_mut_ptr(), self.out_views.len(),
+                self.out_runs.as_mut_ptr(), self.out_runs.len(),
+                self.out_borrows.as_mut_ptr(), self.out_borrows.len(),
+                self.out_ids.as_mut_ptr(), self.out_ids.len(),
+                self.out_pool.as_mut_ptr(), self.out_pool.len(),
+                self.out.as_mut_ptr(), self.out.len())
+        };
+        let answer = good(answer)?;
+        Ok(&self.out[..answer.first])
+    }
+}
+
+/// An id's two words, the high one first.
+fn halves(id: &u128) -> [u64; 2] {
+    [(id >> 64) as u64, *id as u64]
 }
 
 /// A bound's three numbers, its key behind the bytes so far.

@@ -2,11 +2,14 @@
 //! judged here: the original has no check of L1 to L5.
 
 use crate::bytes_range::BytesRange;
-use crate::convert::{from_manifest, to_manifest};
-use crate::manifest::Manifest;
+use crate::convert::{from_manifest, from_segments, to_manifest, to_text};
+use crate::manifest::{merge_segments_from_compactor, merge_segments_from_writer, Manifest, ProjectionConfig, Segment};
 use crate::records;
 use bytes::Bytes;
+use slatedb_common::DbRand;
 use std::ops::Bound::{Excluded, Included};
+use std::sync::Arc;
+use uuid::Uuid;
 
 /// A manifest in the original's own records.
 #[derive(Clone)]
@@ -51,8 +54,50 @@ impl Loaded {
         self.0.core.select_segments(&range.0).map_or(0, |window| window.len())
     }
 
+    /// The manifest narrowed to a range.
+    pub fn project(&self, range: &Bounds) -> Loaded {
+        let global_range = Some(range.0.clone());
+        let config = ProjectionConfig { global_range, segment_filter: None, segment_projection: None };
+        Loaded(Manifest::projected(&self.0, &config).expect("there are no own ranges"))
+    }
+
     /// Whether it went in, or was there.
     pub fn insert(&mut self, prefix: &Prefix) -> bool {
         self.0.core.maybe_insert_tree(&prefix.0).is_ok()
+    }
+
+    /// Both merges of the writer's segments with a compactor's. Data that only the compactor has ends the first by a panic.
+    pub fn merge_from_writer(&self, compactor: &Loaded) -> Merged {
+        Merged(merge_segments_from_writer(&compactor.0.core.segments, &self.0.core.segments))
+    }
+
+    pub fn merge_from_compactor(&self, compactor: &Loaded) -> Merged {
+        Merged(merge_segments_from_compactor(&self.0.core.segments, &compactor.0.core.segments))
+    }
+
+    /// How many ids it owns.
+    pub fn owned(&self) -> usize {
+        self.0.owned_ssts().len()
+    }
+
+    // The original asks for an `Arc`, and hands it to no other thread.
+    #[allow(clippy::arc_with_non_send_sync)]
+    pub fn cloned(&self, path: &[u8], checkpoint: u128, fresh: &[u128]) -> Loaded {
+        let uuid = |id: u128| Uuid::from_bytes(id.to_be_bytes());
+        let fresh = Arc::new(DbRand::lent(fresh.iter().copied().map(uuid).collect()));
+        Loaded(Manifest::cloned(&self.0, to_text(path), uuid(checkpoint), fresh))
+    }
+}
+
+/// A segment list in the original's own records.
+pub struct Merged(Vec<Segment>);
+
+impl Merged {
+    pub fn bytes(&self) -> Vec<u8> {
+        records::write_segments(&from_segments(&self.0))
+    }
+
+    pub fn count(&self) -> usize {
+        self.0.len()
     }
 }

@@ -2,18 +2,78 @@
 
 use crate::lent::{byte, word, Lent};
 use crate::range::{range, Range};
-use crate::words::{bytes, hex, room, Room};
-use manifest::c::{self, Answer};
+use crate::words::{bytes, filter, hex, id, ids, list, room, Room};
+use manifest::c::{self, Answer, Merge};
 use manifest::ENCODED;
 
 /// The operations that the port has an entry point for; every other call is `unknown`.
-pub const OPERATIONS: [&str; 4] = ["read", "lookup", "select", "insert"];
+pub const OPERATIONS: [&str; 9] = [
+    "read",
+    "lookup",
+    "select",
+    "insert",
+    "merge_from_writer",
+    "merge_from_compactor",
+    "project",
+    "owned",
+    "clone",
+];
 
 /// Words of the working tables for one manifest: segments, views, runs, borrows, ids.
 pub const ROWS: [usize; 5] = [64 * 12, 512 * 16, 128 * 3, 32 * 9, 512 * 2];
 
 /// Bytes of the pool of a result.
 pub const POOL: usize = 8_192;
+
+/// The most places lent for owned ids, some more than any manifest owns.
+const PLACES: usize = 520;
+
+/// Words of the list of ids in use.
+pub const USED: usize = 512 * 2;
+
+/// What a projection is asked for: flags and a mask, the global range, the own ranges, over these bytes.
+#[derive(Default)]
+struct Wanted {
+    asked: [u64; 5],
+    global: Range,
+    own: Vec<u64>,
+    args: Vec<u8>,
+}
+
+impl Wanted {
+    /// The words of a call.
+    fn of(global: &str, kept: &str, own: &str) -> Option<Wanted> {
+        let mut wanted = Wanted::default();
+        if global != "." {
+            wanted.asked[0] = 1;
+            wanted.global = wanted.range(global)?;
+        }
+        if let Some((flag, mask)) = filter(kept)? {
+            wanted.asked[1..4].copy_from_slice(&[1, flag, mask]);
+        }
+        if own != "." {
+            wanted.asked[4] = 1;
+            for entry in own.split(',') {
+                let row = if entry == "." { Range::default() } else { wanted.range(entry)? };
+                wanted.own.extend(row);
+            }
+        }
+        Some(wanted)
+    }
+
+    /// A RANGE word, its bytes behind those so far.
+    fn range(&mut self, word: &str) -> Option<Range> {
+        let bytes = bytes(word)?;
+        let mut row = range(&bytes)?;
+        for place in [1, 4] {
+            if row[place - 1] != 0 {
+                row[place] += self.args.len() as u64;
+            }
+        }
+        self.args.extend(bytes);
+        Some(row)
+    }
+}
 
 /// A slice that an entry point may write, as it takes it.
 pub struct Slice<T> {
@@ -57,8 +117,17 @@ pub struct Host {
     rows: [Lent<u64>; 5],
     results: [Lent<u64>; 5],
     pool: Lent<u8>,
+    /// For two manifests at a time.
+    both: [Lent<u64>; 5],
+    both_pool: Lent<u8>,
+    /// The bytes of a projection's arguments, and of the manifest behind them.
+    behind: Lent<u8>,
+    used: Lent<u64>,
     out: Lent<u8>,
+    ids: Lent<u64>,
     answered: u64,
+    /// Whether 2 may come after the working tables were judged, as that of an own range does.
+    late: bool,
 }
 
 impl Default for Host {
@@ -68,8 +137,14 @@ impl Default for Host {
             rows: rows(),
             results: rows(),
             pool: Lent::new(POOL, byte),
+            both: ROWS.map(|count| Lent::new(2 * count, word)),
+            both_pool: Lent::new(2 * POOL, byte),
+            behind: Lent::new(POOL, byte),
+            used: Lent::new(USED, word),
             out: Lent::new(ENCODED, byte),
+            ids: Lent::new(2 * PLACES + 1, word),
             answered: 0,
+            late: false,
         }
     }
 }
@@ -82,6 +157,7 @@ type Told = Result<String, Broken>;
 impl Host {
     pub fn answer(&mut self, line: &str) -> String {
         self.answered += 1;
+        self.late = false;
         match self.call(line) {
             None => "unknown".to_string(),
             Some(Ok(answer)) => answer,
@@ -102,6 +178,21 @@ impl Host {
                 self.select(&bytes(manifest)?, &wanted, &bounds)
             }
             ["insert", manifest, prefix] => self.insert(&bytes(manifest)?, &bytes(prefix)?, &room),
+            ["merge_from_writer", writer, compactor] => {
+                self.merge(c::manifest_merge_from_writer, &bytes(writer)?, &bytes(compactor)?, &room)
+            }
+            ["merge_from_compactor", writer, compactor] => {
+                self.merge(c::manifest_merge_from_compactor, &bytes(writer)?, &bytes(compactor)?, &room)
+            }
+            ["owned", manifest] => self.owned(&bytes(manifest)?, &room),
+            ["clone", manifest, path, checkpoint, fresh] => {
+                let (path, checkpoint, fresh) = (bytes(path)?, id(checkpoint)?, ids(fresh)?);
+                self.cloned(&bytes(manifest)?, &path, &checkpoint, &fresh, &room)
+            }
+            ["project", manifest, global, kept, own] => {
+                let wanted = Wanted::of(global, kept, own)?;
+                self.project(&bytes(manifest)?, &wanted, &room)
+            }
             _ => return None,
         })
     }
@@ -177,6 +268,146 @@ impl Host {
         if self.probes() {
             let short = self.short_results();
             let (rows, out) = (self.rows(), Slice::of(self.out.filled(ENCODED)));
+            let told = call(&short, &rows, &out);
+            require(self.fits(answer, told), "no refusal 4 for a result table that is too short")?;
+            require(self.out.kept_from(0), "a refused call changed the output")?;
+            self.guarded()?;
+        }
+        match (answer.number, answer.first, answer.second, answer.third) {
+            (0, 0, index, 0) => Ok(format!("ok found {index}")),
+            (0, 1, index, _) => Ok(format!("ok entered {index} {}", hex(&result))),
+            _ => refusal(answer),
+        }
+    }
+
+    fn merge(&mut self, entry: Merge, writer: &[u8], compactor: &[u8], room: &Room) -> Told {
+        let call = |both: &Results, pool: &Slice<u8>, rows: &Rows, out: &Slice<u8>| {
+            let [segments, views, runs, borrows, ids] = &both.rows;
+            let held = &both.pool;
+            call!(
+                entry,
+                (writer.as_ptr(), writer.len(), compactor.as_ptr(), compactor.len(), room),
+                rows,
+                (
+                    segments.at,
+                    segments.len,
+                    views.at,
+                    views.len,
+                    runs.at,
+                    runs.len,
+                    borrows.at,
+                    borrows.len,
+                    ids.at,
+                    ids.len,
+                    held.at,
+                    held.len,
+                    pool.at,
+                    pool.len,
+                    out.at,
+                    out.len
+                )
+            )
+        };
+        let (both, pool) = (self.both(), self.results().pool);
+        let given = writer.len() + compactor.len();
+        let (answer, result) =
+            self.written(given, |answer| answer.first, |rows, out| call(&both, &pool, rows, out))?;
+        if self.probes() {
+            let (both, pool) = self.short_both();
+            let (rows, out) = (self.rows(), Slice::of(self.out.filled(ENCODED)));
+            let wanted = if answer.number == 2 { answer } else { NO_ROOM };
+            require(
+                call(&both, &pool, &rows, &out) == wanted,
+                "no refusal 4 for a table of both that is too short",
+            )?;
+            require(self.out.kept_from(0), "a refused call changed the output")?;
+            self.guarded()?;
+        }
+        match (answer.number, answer.second, answer.third) {
+            (0, 0, 0) => Ok(format!("ok {}", hex(&result))),
+            _ => refusal(answer),
+        }
+    }
+
+    /// The ids are words, so their output is another than that of encoded results; the room says how many places it has.
+    fn owned(&mut self, manifest: &[u8], room: &Room) -> Told {
+        let places = usize::try_from(room[4]).map_or(PLACES, |places| places.min(PLACES));
+        // An odd word at the end is no place.
+        let odd = usize::from(self.answered % 2 == 1);
+        let (answer, words) = self.owned_into(2 * places + odd, manifest)?;
+        if self.probes() {
+            let length = 2 * if answer.number == 0 { answer.first } else { places };
+            let fitting = self.owned_into(length, manifest)?;
+            require(fitting == (answer, words.clone()), "another answer into a place that just fits")?;
+            if answer.number == 0 && length > 0 {
+                let (short, _) = self.owned_into(length - 1, manifest)?;
+                require(short == NO_ROOM, "no refusal 4 for a place that is one word too short")?;
+            }
+            let out = Slice::of(self.ids.filled(2 * PLACES));
+            self.too_short(answer, |rows| owned_call(manifest, rows, &out))?;
+            require(self.ids.kept_from(0), "a refused call changed the output")?;
+        }
+        match (answer.number, answer.second, answer.third) {
+            (0, 0, 0) => Ok(format!("ok {}", list(&words))),
+            _ => refusal(answer),
+        }
+    }
+
+    /// The answer, and the ids laid into so many words.
+    fn owned_into(&mut self, length: usize, manifest: &[u8]) -> Result<(Answer, Vec<u64>), Broken> {
+        let rows = self.rows();
+        let answer = owned_call(manifest, &rows, &Slice::of(self.ids.filled(length)));
+        self.guarded()?;
+        if answer.number != 0 {
+            require(self.ids.kept_from(0), "a refused call changed the output")?;
+            return Ok((answer, vec![]));
+        }
+        let filled = answer.first.saturating_mul(2);
+        require(filled <= length, "a result longer than its place")?;
+        require(self.ids.kept_from(filled), "the output changed past the result")?;
+        Ok((answer, self.ids.cells()[..filled].to_vec()))
+    }
+
+    fn cloned(
+        &mut self,
+        manifest: &[u8],
+        path: &[u8],
+        checkpoint: &[u64; 2],
+        fresh: &[u64],
+        room: &Room,
+    ) -> Told {
+        let (s, p, f) = (manifest, path, fresh);
+        let call = |to: &Results, rows: &Rows, out: &Slice<u8>| {
+            let [segments, views, runs, borrows, ids] = &to.rows;
+            let pool = &to.pool;
+            call!(
+                c::manifest_clone,
+                (s.as_ptr(), s.len(), p.as_ptr(), p.len(), checkpoint, f.as_ptr(), f.len(), room),
+                rows,
+                (
+                    segments.at,
+                    segments.len,
+                    views.at,
+                    views.len,
+                    runs.at,
+                    runs.len,
+                    borrows.at,
+                    borrows.len,
+                    ids.at,
+                    ids.len,
+                    pool.at,
+                    pool.len,
+                    out.at,
+                    out.len
+                )
+            )
+        };
+        let to = self.results();
+        let (answer, result) =
+            self.written(s.len(), |answer| answer.first, |rows, out| call(&to, rows, out))?;
+        if self.probes() {
+            let short = self.short_results();
+            let (rows, out) = (self.rows(), Slice::of(self.out.filled(ENCODED)));
             let wanted = if answer.number == 2 { answer } else { NO_ROOM };
             require(
                 call(&short, &rows, &out) == wanted,
@@ -184,10 +415,76 @@ impl Host {
             )?;
             require(self.out.kept_from(0), "a refused call changed the output")?;
             self.guarded()?;
+            // 4 for the output comes before 16.
+            if answer.number == 16 {
+                let (none, _) = self.into(0, |answer| answer.first, |rows, out| call(&to, rows, out))?;
+                require(none == NO_ROOM, "no refusal 4 for an output of no byte")?;
+            }
         }
-        match (answer.number, answer.first, answer.second, answer.third) {
-            (0, 0, index, 0) => Ok(format!("ok found {index}")),
-            (0, 1, index, _) => Ok(format!("ok entered {index} {}", hex(&result))),
+        match (answer.number, answer.second, answer.third) {
+            (0, 0, 0) => Ok(format!("ok {}", hex(&result))),
+            _ => refusal(answer),
+        }
+    }
+
+    fn project(&mut self, manifest: &[u8], wanted: &Wanted, room: &Room) -> Told {
+        let (s, a, own) = (manifest, &wanted.args, &wanted.own);
+        let call = |to: &Results, behind: &Slice<u8>, used: &Slice<u64>, rows: &Rows, out: &Slice<u8>| {
+            let [segments, views, runs, borrows, ids] = &to.rows;
+            let pool = &to.pool;
+            call!(
+                c::manifest_project,
+                (
+                    s.as_ptr(),
+                    s.len(),
+                    a.as_ptr(),
+                    a.len(),
+                    &wanted.asked,
+                    &wanted.global,
+                    own.as_ptr(),
+                    own.len(),
+                    room
+                ),
+                rows,
+                (
+                    segments.at,
+                    segments.len,
+                    views.at,
+                    views.len,
+                    runs.at,
+                    runs.len,
+                    borrows.at,
+                    borrows.len,
+                    ids.at,
+                    ids.len,
+                    behind.at,
+                    behind.len,
+                    used.at,
+                    used.len,
+                    pool.at,
+                    pool.len,
+                    out.at,
+                    out.len
+                )
+            )
+        };
+        self.late = wanted.asked[4] == 1;
+        // The pool that holds the manifest has room for the arguments before it.
+        self.behind = Lent::new(POOL + a.len(), byte);
+        let to = self.results();
+        let (behind, used) = (Slice::of(self.behind.filled(POOL + a.len())), Slice::of(self.used.filled(USED)));
+        let (answer, result) =
+            self.written(s.len(), |answer| answer.second, |rows, out| call(&to, &behind, &used, rows, out))?;
+        if self.probes() {
+            let short = self.short_results();
+            let (rows, out) = (self.rows(), Slice::of(self.out.filled(ENCODED)));
+            let told = call(&short, &behind, &used, &rows, &out);
+            require(self.fits(answer, told), "no refusal 4 for a result table that is too short")?;
+            require(self.out.kept_from(0), "a refused call changed the output")?;
+            self.guarded()?;
+        }
+        match (answer.number, answer.third) {
+            (0, 0) => Ok(format!("ok {} {}", answer.first, hex(&result))),
             _ => refusal(answer),
         }
     }
@@ -257,14 +554,14 @@ impl Host {
     /// what earlier calls left.
     fn rows(&mut self) -> Rows {
         let fresh = self.fresh();
-        lend(&mut self.rows, fresh)
+        lend(&mut self.rows, ROWS, fresh)
     }
 
     /// The same for a result.
     fn results(&mut self) -> Results {
         let fresh = self.fresh();
         let pool = Slice::of(if fresh { self.pool.filled(POOL) } else { self.pool.as_left() });
-        Results { rows: lend(&mut self.results, fresh), pool }
+        Results { rows: lend(&mut self.results, ROWS, fresh), pool }
     }
 
     /// One of them a cell too short.
@@ -276,9 +573,29 @@ impl Host {
         Results { rows: shorten(&mut self.results, short), pool }
     }
 
+    /// Working tables for two manifests.
+    fn both(&mut self) -> Results {
+        let fresh = self.fresh();
+        let pool = Slice::of(if fresh { self.both_pool.filled(2 * POOL) } else { self.both_pool.as_left() });
+        Results { rows: lend(&mut self.both, ROWS.map(|count| 2 * count), fresh), pool }
+    }
+
+    /// One of them, or the pool of the list, a cell too short.
+    fn short_both(&mut self) -> (Results, Slice<u8>) {
+        let short = (self.answered / 16 % 7) as usize;
+        let cells = self.both_pool.as_left();
+        let count = cells.len() - usize::from(short == 5);
+        let held = Slice::of(&mut cells[..count]);
+        let cells = self.pool.as_left();
+        let count = cells.len() - usize::from(short == 6);
+        let pool = Slice::of(&mut cells[..count]);
+        (Results { rows: shorten(&mut self.both, short), pool: held }, pool)
+    }
+
     fn guarded(&self) -> Result<(), Broken> {
-        let mut tables = self.rows.iter().chain(&self.results);
-        let kept = tables.all(Lent::guarded) && self.pool.guarded();
+        let mut tables = self.rows.iter().chain(&self.results).chain(&self.both);
+        let pools = self.pool.guarded() && self.both_pool.guarded() && self.behind.guarded();
+        let kept = tables.all(Lent::guarded) && pools && self.used.guarded();
         require(kept, "something was written beside the working tables")
     }
 
@@ -291,19 +608,29 @@ impl Host {
         self.answered % 16 == 15
     }
 
+    /// Whether a call that was answered so is told this where a working table is too short.
+    fn fits(&self, answer: Answer, told: Answer) -> bool {
+        let early = answer.number == 2 && told == answer;
+        early || told == NO_ROOM && (answer.number != 2 || self.late)
+    }
+
     /// One of the working tables a word too short: 4 before the manifest is looked at, and after 2.
     fn too_short(&mut self, answer: Answer, call: impl Fn(&Rows) -> Answer) -> Result<(), Broken> {
         let short = (self.answered / 16 % 5) as usize;
         let rows = shorten(&mut self.rows, short);
-        let wanted = if answer.number == 2 { answer } else { NO_ROOM };
-        require(call(&rows) == wanted, "no refusal 4 for a working table that is too short")?;
+        let told = call(&rows);
+        require(self.fits(answer, told), "no refusal 4 for a working table that is too short")?;
         self.guarded()
     }
 }
 
+fn owned_call(manifest: &[u8], rows: &Rows, out: &Slice<u64>) -> Answer {
+    call!(c::manifest_owned, (manifest.as_ptr(), manifest.len()), rows, (out.at, out.len))
+}
+
 /// The tables, filled with the pattern or as the last call left them.
-fn lend(tables: &mut [Lent<u64>; 5], fresh: bool) -> Rows {
-    let mut counts = ROWS.into_iter();
+fn lend(tables: &mut [Lent<u64>; 5], counts: [usize; 5], fresh: bool) -> Rows {
+    let mut counts = counts.into_iter();
     tables.each_mut().map(|table| {
         let count = counts.next().unwrap_or(0);
         Slice::of(if fresh { table.filled(count) } else { table.as_left() })

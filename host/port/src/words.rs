@@ -46,6 +46,30 @@ pub fn hex(bytes: &[u8]) -> String {
     String::from_utf8(digits.collect()).expect("digits are text")
 }
 
+/// An id's two words, the high one first.
+pub fn id(word: &str) -> Option<[u64; 2]> {
+    let bytes: [u8; 16] = bytes(word)?.try_into().ok()?;
+    let id = u128::from_be_bytes(bytes);
+    Some([(id >> 64) as u64, id as u64])
+}
+
+/// The words of a list of ids.
+pub fn ids(word: &str) -> Option<Vec<u64>> {
+    if word == "." {
+        return Some(vec![]);
+    }
+    Some(word.split(',').map(id).collect::<Option<Vec<_>>>()?.concat())
+}
+
+/// A list of ids by their words.
+pub fn list(words: &[u64]) -> String {
+    if words.is_empty() {
+        return ".".to_string();
+    }
+    let ids: Vec<String> = words.chunks_exact(2).map(|id| format!("{:016x}{:016x}", id[0], id[1])).collect();
+    ids.join(",")
+}
+
 fn number(word: &str) -> Option<u64> {
     let plain = !word.is_empty() && word.bytes().all(|letter| letter.is_ascii_digit());
     word.parse().ok().filter(|_| plain)
@@ -59,4 +83,19 @@ pub fn room(line: &str) -> Option<(Room, &str)> {
     let (list, call) = rest.split_once(' ')?;
     let numbers = list.split(',').map(number).collect::<Option<Vec<u64>>>()?;
     Some((numbers.try_into().ok()?, call))
+}
+
+/// A filter's flag and mask, if there is one.
+pub fn filter(word: &str) -> Option<Option<(u64, u64)>> {
+    if word == "." {
+        return Some(None);
+    }
+    let (flag, mask) = word.split_once(':')?;
+    let flag = match flag {
+        "0" => 0,
+        "1" => 1,
+        _ => return None,
+    };
+    let mask: [u8; 8] = bytes(mask)?.try_into().ok()?;
+    Some(Some((flag, u64::from_be_bytes(mask))))
 }

@@ -1,0 +1,70 @@
+use mathlib.Core.Path.{_∙_}
+use Rattle.encoded_merge.proofs.Giving.{into-done, into-refused}
+use borrow.Author.Needs.{needs}
+use Rattle.encoded_merge.proofs.merge_into.Statement.{statement}
+use Rattle.encoded_merge.proofs.merge_into.Tie as tie
+
+merge-list-requires : tie.Need-merge-list-requires
+merge-list-requires c κs = search needs
+
+enum-known-w : tie.Need-enum-known-w
+enum-known-w c = search needs
+
+write-segments-requires : tie.Need-write-segments-requires
+write-segments-requires c κs = search needs
+
+enum-known-x : tie.Need-enum-known-x
+enum-known-x c = search needs
+
+same-length : tie.Need-same-length
+same-length c = search needs
+
+same-length-2 : tie.Need-same-length-2
+same-length-2 c = search needs
+
+same-length-3 : tie.Need-same-length-3
+same-length-3 c = search needs
+
+same-length-4 : tie.Need-same-length-4
+same-length-4 c = search needs
+
+same-length-5 : tie.Need-same-length-5
+same-length-5 c = search needs
+
+returns : tie.Need-returns
+returns c = c .before .before .write-segments .ensures ∙ into-done _ _ _ _ _ _ _ _ (c .before .before .before .before .before .before .before .before .before .before .before .before .before .before .before .before .before .before .before .merge-list .ensures) _ (c .before .before .before .before .before .before .before .before .before .w .given .1)
+
+same-length-6 : tie.Need-same-length-6
+same-length-6 c = search needs
+
+same-length-7 : tie.Need-same-length-7
+same-length-7 c = search needs
+
+same-length-8 : tie.Need-same-length-8
+same-length-8 c = search needs
+
+same-length-9 : tie.Need-same-length-9
+same-length-9 c = search needs
+
+returns-2 : tie.Need-returns-2
+returns-2 c = into-refused _ _ _ _ _ _ _ _ (c .before .before .before .before .before .before .before .before .before .before .before .merge-list .ensures) _ (c .before .x .given .1)
+
+pub merge-into-spec : {M : Type 1} → statement M
+merge-into-spec =
+    tie.close
+    (tie.spec
+    merge-list-requires
+    enum-known-w
+    write-segments-requires
+    enum-known-x
+    same-length
+    same-length-2
+    same-length-3
+    same-length-4
+    same-length-5
+    returns
+    same-length-6
+    same-length-7
+    same-length-8
+    same-length-9
+    returns-2)

@@ -1,0 +1,4 @@
+pub mod Args
+pub mod Giving
+pub mod Keeping
+pub mod Rooms

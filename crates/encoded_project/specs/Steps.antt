@@ -1,0 +1,25 @@
+-- What the inner functions answer. No public promise speaks of it.
+use Prim.Native.Nat.{ℕ}
+use mathlib.Core.List.{List}
+use Rattle.keys.specs.Pick.{pick}
+use Rattle.records.specs.Fill.{fits}
+use Rattle.records.specs.Decode.{Lent}
+use Rattle.records.specs.declared.Fill.{Fill}
+use Rattle.records.specs.declared.Limits.{Limits}
+use Rattle.records.specs.declared.ManifestRow.{ManifestRow}
+use Rattle.records.specs.declared.Refusal.the-variants.{Unlawful, OverLimit}
+use Rattle.lawful.specs.Judge.{judgedOf}
+use Rattle.copy.specs.Copy.{Outcome, givenAt, copyAtOf}
+use Rattle.msgpack.specs.Skip.{wholeOf}
+use Rattle.manifest_values.specs.Read.{manifestAt}
+use Rattle.manifest_read.specs.Answer.{refused, byLaw, byRecord, byWhole}
+use Rattle.project_ranges.specs.declared.ProjectionConfig.{ProjectionConfig}
+use Rattle.encoded_project.specs.Project.{overIn}
+
+-- rows of which there are f, judged, and copied behind what fills c where they are lawful
+unfoldable pub keptAt : Limits → Fill → Fill → Lent → ManifestRow → Lent → Outcome
+keptAt lim f c l m o = pick (fits f (lim .fill)) (byLaw (judgedOf lim l m) (copyAtOf lim c l m o) o) (refused (Unlawful 1) o)
+
+-- bytes read behind what fills c: 18, 19, 2 of the own ranges that count, 1
+unfoldable pub readWith : Limits → ℕ → ProjectionConfig → List ℕ → List ℕ → Fill → Lent → Outcome
+readWith lim n a own s c o = pick (overIn lim n a own s) (refused OverLimit o) (byWhole lim (λ m. givenAt lim c m o) s o (wholeOf s))

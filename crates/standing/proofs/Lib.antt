@@ -1,0 +1,5 @@
+pub mod Parts
+pub mod Placing
+pub mod Staying
+pub mod Small
+pub mod Reading

@@ -1,0 +1,1 @@
+// Manifests laid out one behind another in one set of tables: theorems, no code.
