@@ -21,7 +21,7 @@ use project_ranges::mask_over;
 use project_ranges::names_count;
 use project_ranges::own_fault;
 use prune::measure_pruned;
-use prune::put_pruned;
+use prune::prune_external_sst_ids;
 use records::Fill;
 use records::Limits;
 use records::ManifestRow;
@@ -80,7 +80,7 @@ fn put_rest_after(
     let laid = put_name(n, pool, out_pool, c);
     let name = laid.name;
     let at = laid.past;
-    put_pruned(
+    prune_external_sst_ids(
         borrows,
         w,
         ids,

@@ -17,7 +17,7 @@ use project_ranges::resolve_segment_action;
 use project_views::Reach;
 use project_views::ids_shown;
 use project_views::measure_tree_shown;
-use project_views::put_tree_shown;
+use project_views::project_tree_in_place;
 use records::Fill;
 use records::Limits;
 use records::Name;
@@ -487,7 +487,7 @@ fn put_tree_after(
             LaidTree { tree, past: c }
         }
         SegmentAction::Project(r) => {
-            put_tree_shown(t, runs, views, pool, r, out_runs, out_views, out_pool, c)
+            project_tree_in_place(t, runs, views, pool, r, out_runs, out_views, out_pool, c)
         }
         SegmentAction::PassThrough => {
             put_tree(t, runs, views, pool, out_runs, out_views, out_pool, c)

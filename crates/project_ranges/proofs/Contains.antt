@@ -54,11 +54,11 @@ module _ (b : Bound) (from len : ℕ) where
   pub end-excluded : (other : Until) → b ≡ bound.Excluded from len → Excluded from len ≡ endOr b other
   end-excluded other e = rw e
 
-pub resolve-both : (p : Place) (r : Range) (s : Bound) (e : Until) → s ≡ startOr (r .start) (bound.Included (p .at) (p .len))
+pub canonicalize-segment-range-both : (p : Place) (r : Range) (s : Bound) (e : Until) → s ≡ startOr (r .start) (bound.Included (p .at) (p .len))
     → e ≡ endOr (r .end) (Successor (p .at) (p .len)) → record { start = s; end = e } ≡ resolvedRow p r
-resolve-both p r s e h k = rw (h, k)
+canonicalize-segment-range-both p r s e h k = rw (h, k)
 
-pub ruleset ors = (start-included, start-excluded, end-included, end-excluded, resolve-both)
+pub ruleset ors = (start-included, start-excluded, end-included, end-excluded, canonicalize-segment-range-both)
 
 start-or : (pool : List ℕ) (b other : Bound) → edgeOf pool (startOr b other) ≡ orElse (edgeOf pool b) (edgeOf pool other)
 start-or pool bound.Unbounded other = refl

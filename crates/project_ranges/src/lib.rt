@@ -322,7 +322,7 @@ fn end_or(b: Bound, other: Until) -> Until
 }
 
 // Its unbounded ends are those of its prefix. The successor is not made: it may stand in no pool.
-fn resolve(prefix: Place, r: Range) -> Reach
+fn canonicalize_segment_range(prefix: Place, r: Range) -> Reach
     ensures { λ q. ⌜ q ≡ resolvedRow prefix r ⌝ }
 {
     let s = r.start;
@@ -412,7 +412,7 @@ fn end_stays(pool: &[u8], e: Bound, prefix: Place) -> bool
 fn is_contained(pool: &[u8], prefix: Place, r: Range) -> bool
     ensures { λ b. ⌜ b ≡ isContained (bytesIn (now (pool .entry)) prefix) (resolved (bytesIn (now (pool .entry)) prefix) (edgesOf (now (pool .entry)) r)) ⌝ }
 {
-    let q = resolve(prefix, r);
+    let q = canonicalize_segment_range(prefix, r);
     let s = q.start;
     let e = r.end;
     if start_stays(pool, s, prefix) {
@@ -425,7 +425,7 @@ fn is_contained(pool: &[u8], prefix: Place, r: Range) -> bool
 fn range_fault(pool: &[u8], prefix: Place, place: usize, r: Range) -> Fault
     ensures { λ x. ⌜ x ≡ rangeFault place (bytesIn (now (pool .entry)) prefix) (edgesOf (now (pool .entry)) r) ⌝ }
 {
-    let q = resolve(prefix, r);
+    let q = canonicalize_segment_range(prefix, r);
     if holds_none(pool, q) {
         return Fault::Empty(place);
     }
@@ -568,7 +568,7 @@ pub fn resolve_segment_action(
     let g = c.global_range;
     if c.segment_projection {
         let r = own_at(own, place);
-        let q = resolve(prefix, r);
+        let q = canonicalize_segment_range(prefix, r);
         return met_action(pool, q, g);
     }
     sole_action(g)

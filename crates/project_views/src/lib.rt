@@ -374,7 +374,7 @@ fn put_kept_at(
 // ---- the views of a window: those of L0, which overlap, or those of a run
 
 // Appends what is left of them.
-fn put_views_shown(
+fn filter_view_handles(
     views: &[u64],
     w: Window,
     views_overlap: bool,
@@ -434,7 +434,7 @@ fn put_run_shown(
     ensures { λ _. ⌜ now («out_pool» .exit) ≡ write (now («out_pool» .entry)) (c .bytes) (joined runBytes (runPiece (reachOf (now (pool .entry)) r) (runIn (now (views .entry)) (now (pool .entry)) x))) ⌝ }
 {
     let w = x.views;
-    let to = put_views_shown(views, w, false, pool, r, out_views, out_pool, c);
+    let to = filter_view_handles(views, w, false, pool, r, out_views, out_pool, c);
     if to.views == c.views {
         return to;
     }
@@ -519,7 +519,7 @@ fn put_runs_shown(
 
 // Appends what the range `r` leaves of a tree.
 // inner
-pub fn put_tree_shown(
+pub fn project_tree_in_place(
     t: TreeRow,
     runs: &[u64],
     views: &[u64],
@@ -542,7 +542,7 @@ pub fn put_tree_shown(
     let sst = t.sst;
     let l0 = t.l0;
     let compacted = t.compacted;
-    let a = put_views_shown(views, l0, true, pool, r, out_views, out_pool, c);
+    let a = filter_view_handles(views, l0, true, pool, r, out_views, out_pool, c);
     let past = put_runs_shown(
         runs,
         compacted,

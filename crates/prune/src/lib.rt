@@ -260,9 +260,9 @@ fn put_kept_at(
     )
 }
 
-// Appends what is left of the borrows of a window (`prune_external_sst_ids`).
+// Appends what is left of the borrows of a window.
 // inner
-pub fn put_pruned(
+pub fn prune_external_sst_ids(
     borrows: &[u64],
     w: Window,
     ids: &[u64],

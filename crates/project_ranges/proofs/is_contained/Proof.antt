@@ -7,7 +7,7 @@ pub is-contained-spec : {M : Type 1} → statement M
 is-contained-spec =
     tie.close
     (tie.spec
-    (λ c κs. search needs)  -- resolve-requires
+    (λ c κs. search needs)  -- canonicalize-segment-range-requires
     (λ c κs. search needs)  -- start-stays-requires
     (λ c κs. search needs)  -- end-stays-requires
     (λ c. search (contains, needs))  -- returns

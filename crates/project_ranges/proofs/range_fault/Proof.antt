@@ -7,7 +7,7 @@ pub range-fault-spec : {M : Type 1} → statement M
 range-fault-spec =
     tie.close
     (tie.spec
-    (λ c κs. search needs)  -- resolve-requires
+    (λ c κs. search needs)  -- canonicalize-segment-range-requires
     (λ c κs. search needs)  -- holds-none-requires
     (λ c. search (ranges, needs))  -- returns
     (λ c κs. search needs)  -- is-contained-requires

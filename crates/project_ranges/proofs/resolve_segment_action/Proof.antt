@@ -11,7 +11,7 @@ resolve-segment-action-spec =
     (λ c κs. search needs)  -- passes-requires
     (λ c. search (acts, not-true, not-false, needs))  -- returns
     (λ c κs. search needs)  -- own-at-requires
-    (λ c κs. search needs)  -- resolve-requires
+    (λ c κs. search needs)  -- canonicalize-segment-range-requires
     (λ c κs. search needs)  -- met-action-requires
     (λ c. search (acts, not-true, not-false, needs))  -- returns-2
     (λ c κs. search needs)  -- sole-action-requires

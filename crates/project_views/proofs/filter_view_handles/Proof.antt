@@ -9,8 +9,8 @@ use Rattle.records.specs.Layout.{viewsLaid}
 use Rattle.emit.proofs.Laid.{Walk, Grown, walk-none, walk-more, walk-all, grown-none, grown-room, grown-more, grown-all, joined-all}
 use Rattle.project_views.specs.Reach.{reachOf}
 use Rattle.project_views.proofs.Shows.{pieceRows, piecePool, pieceIn, shown-fill, shown-past, shown-rows, shown-bytes}
-use Rattle.project_views.proofs.put_views_shown.Statement.{statement}
-use Rattle.project_views.proofs.put_views_shown.Tie as tie
+use Rattle.project_views.proofs.filter_view_handles.Statement.{statement}
+use Rattle.project_views.proofs.filter_view_handles.Tie as tie
 
 abbrev Inv-loop : tie.InvT-loop
 Inv-loop views views-overlap pool r out-views₀ out-pool₀ n first to₀ k₀ out-views out-pool to k =
@@ -21,9 +21,9 @@ Inv-loop views views-overlap pool r out-views₀ out-pool₀ n first to₀ k₀ 
 abbrev μ-loop : tie.MeasureT-loop
 μ-loop views views-overlap pool r out-views₀ out-pool₀ n first to₀ k₀ out-views out-pool to k = n - k
 
-pub put-views-shown-spec : {M : Type 1} → statement M
+pub filter-view-handles-spec : {M : Type 1} → statement M
 unfolding viewsLaid
-put-views-shown-spec =
+filter-view-handles-spec =
     tie.close
     (tie.spec
     Inv-loop

@@ -9,8 +9,8 @@ use Rattle.records.specs.Fill.{sum, borrowFill}
 use Rattle.records.specs.Layout.{borrowsLaid}
 use Rattle.emit.proofs.Laid.{Walk, Grown, walk-none, walk-more, walk-all, grown-none, grown-room, grown-more, grown-all, joined-all}
 use Rattle.prune.proofs.Kept.{pieceRows, pieceIds, piecePool, pieceIn, kept-fill, kept-laid}
-use Rattle.prune.proofs.put_pruned.Statement.{statement}
-use Rattle.prune.proofs.put_pruned.Tie as tie
+use Rattle.prune.proofs.prune_external_sst_ids.Statement.{statement}
+use Rattle.prune.proofs.prune_external_sst_ids.Tie as tie
 
 abbrev Inv-loop : tie.InvT-loop
 Inv-loop borrows ids pool used out-borrows₀ out-ids₀ out-pool₀ n first to₀ k₀ out-borrows out-ids out-pool to k =
@@ -22,9 +22,9 @@ Inv-loop borrows ids pool used out-borrows₀ out-ids₀ out-pool₀ n first to�
 abbrev μ-loop : tie.MeasureT-loop
 μ-loop borrows ids pool used out-borrows₀ out-ids₀ out-pool₀ n first to₀ k₀ out-borrows out-ids out-pool to k = n - k
 
-pub put-pruned-spec : {M : Type 1} → statement M
+pub prune-external-sst-ids-spec : {M : Type 1} → statement M
 unfolding borrowsLaid
-put-pruned-spec =
+prune-external-sst-ids-spec =
     tie.close
     (tie.spec
     Inv-loop
