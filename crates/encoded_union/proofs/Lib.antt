@@ -1,0 +1,4 @@
+pub mod Rows
+pub mod Gather
+pub mod Sofar
+pub mod Standing

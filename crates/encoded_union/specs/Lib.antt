@@ -1,0 +1,2 @@
+pub mod Union
+pub mod Steps
