@@ -8,8 +8,10 @@
 #
 # stdin is a row of parts, one for each call. A part is its length in two bytes, highest first, and so many bytes. In a call's part stand
 # the operation in one byte (its place in OPERATIONS) and the operation's parts: the call's words as bytes; ids joined are one
-# part; a range is two, its own bytes and six numbers of two bytes over them: of its start and of its end the kind (0 unbounded,
-# 1 included, 2 excluded), the place and the length of the key. An absent word is a part of no bytes.
+# part. Ranges are parts of numbers of two bytes, six for each: of its start and of its end the kind (0 unbounded, 1 included,
+# 2 excluded), the place and the length of the key; the places are in one part before them, the bytes of the call's ranges one
+# after the other. A filter is a number of two bytes and the mask's eight. An absent word is a part of no bytes, and a missing own range
+# six numbers 0.
 # stdout is the answers, one a line, as the line protocol has them. Calls of an operation that crates/replay does not name are left out.
 import os, re, subprocess, sys
 
@@ -106,9 +108,8 @@ def head(data, at):
     return {0xdc: 0x90, 0xdd: 0x90}.get(first, first), int.from_bytes(data[at + 1:at + 1 + width], 'big'), at + 1 + width
 
 
-def range_parts(word):
-    """The two parts of a range. Ranges with further elements are not among the calls."""
-    data = raw(word)
+def bounds(data, base):
+    """The six numbers of a range whose bytes stand at a place. Ranges with further elements are not among the calls."""
     numbers, (_, count, at) = [], head(data, 0)
     assert count == 2
     for _ in range(2):
@@ -119,19 +120,39 @@ def range_parts(word):
         assert count == 2
         _, kind, at = head(data, at)
         _, length, at = head(data, at)
-        numbers += [kind + 1, at, length]
+        numbers += [kind + 1, base + at, length]
         at += length
-    return part(data) + part(b''.join(number.to_bytes(2, 'big') for number in numbers))
+    return numbers
+
+
+def ranges(*lists):
+    """The bytes of all ranges as one part, and for each list of ranges the part of its numbers."""
+    data, parts = b'', []
+    for words in lists:
+        numbers = []
+        for word in words:
+            numbers += [0] * 6 if word == '.' else bounds(raw(word), len(data))
+            data += raw(word)
+        parts.append(part(b''.join(number.to_bytes(2, 'big') for number in numbers)))
+    return [part(data)] + parts
+
+
+def listed(word):
+    return [] if word == '.' else word.split(',')
+
+
+def filtered(word):
+    return b'' if word == '.' else int(word[0]).to_bytes(2, 'big') + bytes.fromhex(word[2:])
 
 
 def frame(call):
     words = call.split(' ')
     operation, words = words[0], words[1:]
     if operation == 'select':
-        inside = part(raw(words[0])) + range_parts(words[1])
+        inside = part(raw(words[0])) + b''.join(ranges([words[1]]))
     elif operation == 'project':
-        inside = part(raw(words[0])) + ranged(words[1]) + part(filtered(words[2]))
-        inside += part(b'' if words[3] == '.' else bytes([1])) + (b'' if words[3] == '.' else b''.join(map(ranged, words[3].split(','))))
+        args, whole, own = ranges(listed(words[1]), listed(words[3]))
+        inside = part(raw(words[0])) + args + whole + part(filtered(words[2])) + own
     elif operation == 'clone':
         inside = b''.join(part(raw(word)) for word in words[:3]) + part(b''.join(map(raw, words[3].split(','))))
     elif operation == 'union':
@@ -140,14 +161,6 @@ def frame(call):
     else:
         inside = b''.join(part(raw(word)) for word in words)
     return part(bytes([OPERATIONS.index(operation)]) + inside)
-
-
-def ranged(word):
-    return part(b'') + part(b'') if word == '.' else range_parts(word)
-
-
-def filtered(word):
-    return b'' if word == '.' else bytes([int(word[0])]) + bytes.fromhex(word[2:])
 
 
 # ---- what crates/replay is given

@@ -2,7 +2,7 @@
 // as well. stdin has the calls of tests/data/replay.txt, stdout the original's answers; tools/replay.py makes both of that list.
 // Its form: a part is its length in two bytes, highest first, and so many bytes. stdin is a row of parts, one for each call; in
 // it stand the operation's number in one byte and the operation's parts.
-// replays: read lookup insert select
+// replays: read lookup insert merge_from_writer merge_from_compactor select project owned clone
 use exports::Answer;
 use keys::part;
 use libc::STDIN_FILENO;
@@ -43,6 +43,22 @@ fn rest(s: &[u8]) -> &[u8] {
     &s[from..]
 }
 
+fn second(s: &[u8]) -> &[u8] {
+    first(rest(s))
+}
+
+fn third(s: &[u8]) -> &[u8] {
+    second(rest(s))
+}
+
+fn fourth(s: &[u8]) -> &[u8] {
+    third(rest(s))
+}
+
+fn fifth(s: &[u8]) -> &[u8] {
+    fourth(rest(s))
+}
+
 // Six numbers of two bytes.
 fn six_numbers(s: &[u8]) -> [u64; 6] {
     [
@@ -52,6 +68,75 @@ fn six_numbers(s: &[u8]) -> [u64; 6] {
         number_at(s, 6) as u64,
         number_at(s, 8) as u64,
         number_at(s, 10) as u64,
+    ]
+}
+
+// As many numbers of two bytes as there are: how many.
+fn numbers(s: &[u8], to: &mut [u64; 512]) -> usize {
+    let mut i = 0;
+    while i < 512 {
+        if s.len() <= 2 * i {
+            return i;
+        }
+        to[i] = number_at(s, 2 * i) as u64;
+        i += 1;
+    }
+    i
+}
+
+// Eight bytes as a number.
+fn word_of(s: &[u8]) -> u64 {
+    let high = number_at(s, 0) * 65536 + number_at(s, 2);
+    let low = number_at(s, 4) * 65536 + number_at(s, 6);
+    high as u64 * 4294967296 + low as u64
+}
+
+// As many numbers of eight bytes as there are: how many.
+fn words(s: &[u8], to: &mut [u64; 512]) -> usize {
+    let mut i = 0;
+    while i < 512 {
+        if s.len() <= 8 * i {
+            return i;
+        }
+        to[i] = word_of(part(s, 8 * i, 8));
+        i += 1;
+    }
+    i
+}
+
+fn at_most(s: &[u64], n: usize) -> &[u64] {
+    if s.len() < n {
+        return s;
+    }
+    &s[0..n]
+}
+
+// The first words of a table.
+fn front(s: &[u64; 512], n: usize) -> &[u64] {
+    at_most(s, n)
+}
+
+// The two words of an id.
+fn id_of(s: &[u8]) -> [u64; 2] {
+    [word_of(part(s, 0, 8)), word_of(part(s, 8, 8))]
+}
+
+// Whether a part has some byte.
+fn is_given(s: &[u8]) -> u64 {
+    if s.len() == 0 {
+        return 0;
+    }
+    1
+}
+
+// What a projection is asked for, by the parts of its global range, its filter and its own ranges.
+fn asked_of(global: &[u8], filter: &[u8], own: &[u8]) -> [u64; 5] {
+    [
+        is_given(global),
+        is_given(filter),
+        number_at(filter, 0) as u64,
+        word_of(part(filter, 2, 8)),
+        is_given(own),
     ]
 }
 
@@ -84,7 +169,8 @@ fn put_refusal(a: Answer) {
     put_number(b" at ", a.first);
 }
 
-fn put_read(a: Answer, out: &[u8]) {
+// What was written.
+fn put_written(a: Answer, out: &[u8]) {
     if a.number != 0 {
         put_refusal(a);
         return;
@@ -133,6 +219,55 @@ fn put_selected(a: Answer) {
     put_number(b" ", a.third);
 }
 
+fn put_projected(a: Answer, out: &[u8]) {
+    if a.number != 0 {
+        put_refusal(a);
+        return;
+    }
+    put_number(b"ok ", a.first);
+    put(b" ");
+    put_bytes(part(out, 0, a.second));
+}
+
+// A word of ids, which are two words each and joined with commas.
+fn put_word(i: usize, x: u64) {
+    if 0 < i {
+        if i % 2 == 0 {
+            put(b",");
+        }
+    }
+    io::print_hex(STDOUT_FILENO, x, 16);
+}
+
+fn put_words(s: &[u64]) {
+    let mut i = 0;
+    while i < s.len() {
+        put_word(i, s[i]);
+        i += 1;
+    }
+}
+
+// So many ids of two words each.
+fn pairs(s: &[u64], n: usize) -> &[u64] {
+    if s.len() / 2 < n {
+        return s;
+    }
+    at_most(s, 2 * n)
+}
+
+fn put_owned(a: Answer, ids: &[u64]) {
+    if a.number != 0 {
+        put_refusal(a);
+        return;
+    }
+    if a.first == 0 {
+        put(b"ok .");
+        return;
+    }
+    put(b"ok ");
+    put_words(pairs(ids, a.first));
+}
+
 // ---- calls
 
 // The room that a result is given: what L1 allows.
@@ -140,7 +275,9 @@ fn room() -> [u64; 6] {
     [64, 512, 128, 32, 512, 8192]
 }
 
-// An operation on its parts, in tables as large as L1 allows: 64, 512, 128, 32 and 512 rows, and 8,192 bytes.
+// Tables are as large as L1 allows: 64, 512, 128, 32 and 512 rows, and 8,192 bytes.
+
+// An operation that reads one manifest, on its parts.
 fn play(operation: u8, s: &[u8]) {
     let mut segments = [0u64; 768];
     let mut views = [0u64; 8192];
@@ -167,12 +304,12 @@ fn play(operation: u8, s: &[u8]) {
                 &mut ids,
                 &mut out,
             );
-            put_read(a, &out);
+            put_written(a, &out);
         }
         1 => {
             let a = exports::manifest_lookup(
                 first(s),
-                first(rest(s)),
+                second(s),
                 &mut segments,
                 &mut views,
                 &mut runs,
@@ -184,7 +321,7 @@ fn play(operation: u8, s: &[u8]) {
         2 => {
             let a = exports::manifest_insert(
                 first(s),
-                first(rest(s)),
+                second(s),
                 &most,
                 &mut segments,
                 &mut views,
@@ -202,10 +339,10 @@ fn play(operation: u8, s: &[u8]) {
             put_inserted(a, &out);
         }
         5 => {
-            let range = six_numbers(first(rest(rest(s))));
+            let range = six_numbers(third(s));
             let a = exports::manifest_select(
                 first(s),
-                first(rest(s)),
+                second(s),
                 &range,
                 &mut segments,
                 &mut views,
@@ -217,12 +354,188 @@ fn play(operation: u8, s: &[u8]) {
         }
         _ => put(b"unknown"),
     }
+}
+
+// A merge: of two manifests, for which there is twice the room.
+fn play_merge(operation: u8, s: &[u8]) {
+    let mut segments = [0u64; 768];
+    let mut views = [0u64; 8192];
+    let mut runs = [0u64; 384];
+    let mut borrows = [0u64; 288];
+    let mut ids = [0u64; 1024];
+    let mut both_segments = [0u64; 1536];
+    let mut both_views = [0u64; 16384];
+    let mut both_runs = [0u64; 768];
+    let mut both_borrows = [0u64; 576];
+    let mut both_ids = [0u64; 2048];
+    let mut both_pool = [0u8; 16384];
+    let mut pool = [0u8; 8192];
+    let mut out = [0u8; 65536];
+    let most = room();
+    match operation {
+        3 => {
+            let a = exports::manifest_merge_from_writer(
+                first(s),
+                second(s),
+                &most,
+                &mut segments,
+                &mut views,
+                &mut runs,
+                &mut borrows,
+                &mut ids,
+                &mut both_segments,
+                &mut both_views,
+                &mut both_runs,
+                &mut both_borrows,
+                &mut both_ids,
+                &mut both_pool,
+                &mut pool,
+                &mut out,
+            );
+            put_written(a, &out);
+        }
+        _ => {
+            let a = exports::manifest_merge_from_compactor(
+                first(s),
+                second(s),
+                &most,
+                &mut segments,
+                &mut views,
+                &mut runs,
+                &mut borrows,
+                &mut ids,
+                &mut both_segments,
+                &mut both_views,
+                &mut both_runs,
+                &mut both_borrows,
+                &mut both_ids,
+                &mut both_pool,
+                &mut pool,
+                &mut out,
+            );
+            put_written(a, &out);
+        }
+    }
+}
+
+fn play_project(s: &[u8]) {
+    let mut segments = [0u64; 768];
+    let mut views = [0u64; 8192];
+    let mut runs = [0u64; 384];
+    let mut borrows = [0u64; 288];
+    let mut ids = [0u64; 1024];
+    let mut in_segments = [0u64; 768];
+    let mut in_views = [0u64; 8192];
+    let mut in_runs = [0u64; 384];
+    let mut in_borrows = [0u64; 288];
+    let mut in_ids = [0u64; 1024];
+    let mut in_pool = [0u8; 16384];
+    let mut used = [0u64; 1024];
+    let mut pool = [0u8; 8192];
+    let mut out = [0u8; 65536];
+    let mut own = [0u64; 512];
+    let most = room();
+    let asked = asked_of(third(s), fourth(s), fifth(s));
+    let range = six_numbers(third(s));
+    let n = numbers(fifth(s), &mut own);
+    let a = exports::manifest_project(
+        first(s),
+        second(s),
+        &asked,
+        &range,
+        front(&own, n),
+        &most,
+        &mut segments,
+        &mut views,
+        &mut runs,
+        &mut borrows,
+        &mut ids,
+        &mut in_segments,
+        &mut in_views,
+        &mut in_runs,
+        &mut in_borrows,
+        &mut in_ids,
+        &mut in_pool,
+        &mut used,
+        &mut pool,
+        &mut out,
+    );
+    put_projected(a, &out);
+}
+
+fn play_owned(s: &[u8]) {
+    let mut segments = [0u64; 768];
+    let mut views = [0u64; 8192];
+    let mut runs = [0u64; 384];
+    let mut borrows = [0u64; 288];
+    let mut ids = [0u64; 1024];
+    let mut out = [0u64; 1024];
+    let a = exports::manifest_owned(
+        first(s),
+        &mut segments,
+        &mut views,
+        &mut runs,
+        &mut borrows,
+        &mut ids,
+        &mut out,
+    );
+    put_owned(a, &out);
+}
+
+fn play_clone(s: &[u8]) {
+    let mut segments = [0u64; 768];
+    let mut views = [0u64; 8192];
+    let mut runs = [0u64; 384];
+    let mut borrows = [0u64; 288];
+    let mut ids = [0u64; 1024];
+    let mut out_segments = [0u64; 768];
+    let mut out_views = [0u64; 8192];
+    let mut out_runs = [0u64; 384];
+    let mut out_borrows = [0u64; 288];
+    let mut out_ids = [0u64; 1024];
+    let mut out_pool = [0u8; 8192];
+    let mut out = [0u8; 65536];
+    let mut fresh = [0u64; 512];
+    let most = room();
+    let checkpoint = id_of(third(s));
+    let n = words(fourth(s), &mut fresh);
+    let a = exports::manifest_clone(
+        first(s),
+        second(s),
+        &checkpoint,
+        front(&fresh, n),
+        &most,
+        &mut segments,
+        &mut views,
+        &mut runs,
+        &mut borrows,
+        &mut ids,
+        &mut out_segments,
+        &mut out_views,
+        &mut out_runs,
+        &mut out_borrows,
+        &mut out_ids,
+        &mut out_pool,
+        &mut out,
+    );
+    put_written(a, &out);
+}
+
+fn play_any(operation: u8, s: &[u8]) {
+    match operation {
+        3 => play_merge(operation, s),
+        4 => play_merge(operation, s),
+        6 => play_project(s),
+        7 => play_owned(s),
+        8 => play_clone(s),
+        _ => play(operation, s),
+    }
     put(b"\n");
 }
 
 fn call(s: &[u8]) {
     if 0 < s.len() {
-        play(s[0], &s[1..]);
+        play_any(s[0], &s[1..]);
     }
 }
 
