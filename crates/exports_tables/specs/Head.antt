@@ -1,15 +1,28 @@
 -- A manifest's own value as words.
 use Prim.Native.Nat.{ℕ}
-use mathlib.Core.Bool.{Bool, false, true}
+use mathlib.Core.Bool.{Bool, false, true, _&&_}
 use mathlib.Core.List.{List, [], _∷_}
-use lib.Dec.{ltb}
+use lib.Dec.{ltb, leb}
+use Rattle.keys.specs.Pick.{pick}
 use lib.IntN.{ℤ}
+use Rattle.tables.specs.declared.Window.{Window}
 use Rattle.records.specs.Row.{at, windowAt, optional, segmentAt}
 use Rattle.records.specs.declared.ManifestRow.{ManifestRow}
 use Rattle.records.specs.declared.Name.{Name}
 use Rattle.records.specs.declared.Name.the-variants.{Absent, Named}
 use Rattle.records.specs.declared.Place.{Place}
 use Rattle.records.specs.declared.SegmentRow.{SegmentRow}
+
+-- "holding a code that stands for nothing, breaks L1": the codes of both watermarks, of the name and of initialized are 0 or 1
+abbrev pub codesKnown : List ℕ → List ℕ → Bool
+codesKnown t h = (leb (at t 2) 1 && leb (at t 5) 1) && (leb (at h 0) 1 && leb (at h 5) 1)
+
+-- a window that lies in no table: what holds another code is read as pointing there, and so breaks L1
+abbrev pub nowhere : Window
+nowhere = record { first = 18446744073709551615; count = 1 }
+
+unfoldable pub headSegments : List ℕ → List ℕ → Window
+headSegments t h = pick (codesKnown t h) (windowAt h 1) nowhere
 
 -- "Manifest: initialized, unsegmented tree, segments, extractor name or none, next_wal_sst_id, replay_after_wal_id, last_l0_clock_tick (i64),
 -- last_l0_seq, recent_snapshot_min_seq, borrows, writer epoch, compactor epoch." The unsegmented tree stands as in a segment's row, with
@@ -20,7 +33,7 @@ headAt t h tick =
     record {
       initialized = ltb 0 (at h 5);
       tree = segmentAt t 0 .tree;
-      segments = windowAt h 1;
+      segments = headSegments t h;
       «segment_extractor_name» = optional Absent Named (at h 0) (segmentAt t 0 .prefix);
       «next_wal_sst_id» = at h 6;
       «replay_after_wal_id» = at h 7;

@@ -20,6 +20,9 @@ use records::segment_words;
 use tables::Window;
 use tables::ix;
 ghost use mathlib.Core.Path.{_≡_};
+ghost use mathlib.Core.Bool.{_&&_};
+ghost use lib.Dec.{leb};
+ghost use Rattle.keys.specs.Pick.{pick};
 ghost use Rattle.records.specs.Row.{optional};
 ghost use Rattle.records.specs.Limits.{limits01};
 ghost use Rattle.records.specs.declared.Name.the-variants.{Absent, Named};
@@ -30,7 +33,7 @@ ghost use Rattle.manifest_rows.specs.Stored.{lent};
 ghost use Rattle.exports.specs.Replies.{told, wroteReply};
 ghost use Rattle.manifest_read.specs.Answer.{readOf};
 ghost use Rattle.insert.specs.Insert.{insertOf};
-ghost use Rattle.exports_tables.specs.Head.{headAt, nameWord, namePlace, flagWord, treeRow, restWords};
+ghost use Rattle.exports_tables.specs.Head.{headAt, headSegments, nowhere, nameWord, namePlace, flagWord, treeRow, restWords};
 ghost use Rattle.exports_tables.specs.Calls.{selectIn, bare, headed, copiedLaid, readReply, insertedLaid, insertReply};
 
 // ---- a manifest's own value
@@ -53,14 +56,53 @@ fn window(first: u64, count: u64) -> Window
     }
 }
 
+// Whether it is a code, 0 or 1.
+fn is_code(x: u64) -> bool
+    ensures { λ r. ⌜ r ≡ leb x 1 ⌝ }
+{
+    x <= 1
+}
+
+fn are_both(a: bool, b: bool) -> bool
+    ensures { λ r. ⌜ r ≡ (a && b) ⌝ }
+{
+    a && b
+}
+
+// The segments' window, or one that lies in no table where the codes are not known.
+fn window_if(known: bool, first: u64, count: u64) -> Window
+    ensures { λ r. ⌜ r ≡ pick known (record { first = first; count = count }) nowhere ⌝ }
+{
+    if known {
+        return window(first, count);
+    }
+    Window {
+        first: 18446744073709551615,
+        count: 1,
+    }
+}
+
+fn head_segments(tree: &[u64; 12], rest: &[u64; 12]) -> Window
+    ensures { λ r. ⌜ r ≡ headSegments (now (tree .entry)) (now (rest .entry)) ⌝ }
+{
+    let view = is_code(tree[2]);
+    let sst = is_code(tree[5]);
+    let marks = are_both(view, sst);
+    let name = is_code(rest[0]);
+    let initialized = is_code(rest[5]);
+    let flags = are_both(name, initialized);
+    let known = are_both(marks, flags);
+    window_if(known, rest[1], rest[2])
+}
+
 fn head_at(tree: &[u64; 12], rest: &[u64; 12], tick: i64) -> ManifestRow
     ensures { λ r. ⌜ r ≡ headAt (now (tree .entry)) (now (rest .entry)) tick ⌝ }
 {
+    let segments = head_segments(tree, rest);
     let s = segment_at(tree, 0);
     let p = s.prefix;
     let tree = s.tree;
     let segment_extractor_name = name_of(rest[0], p);
-    let segments = window(rest[1], rest[2]);
     let external_dbs = window(rest[3], rest[4]);
     ManifestRow {
         initialized: 0 < rest[5],

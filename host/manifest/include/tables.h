@@ -15,7 +15,8 @@ extern "C" {
 
 /* A manifest's own value. `tree`: the place and the length of the extractor's name in the pool, then the unsegmented tree as in a segment's
  * row. `rest`: whether there is a name, the first segment and how many, the first borrow and how many, initialized, next_wal_sst_id,
- * replay_after_wal_id, last_l0_seq, recent_snapshot_min_seq, writer epoch, compactor epoch. `tick`: last_l0_clock_tick. */
+ * replay_after_wal_id, last_l0_seq, recent_snapshot_min_seq, writer epoch, compactor epoch. `tick`: last_l0_clock_tick.
+ * Whether there is a name or a watermark, and initialized, are 0 or 1; any other number breaks L1. */
 struct tables_laid {
     struct manifest_answer answer;
     uint64_t tree[12];
