@@ -1,0 +1,2 @@
+pub mod Prefixed
+pub mod Given
