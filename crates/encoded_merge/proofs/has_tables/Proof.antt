@@ -1,13 +1,12 @@
 use Rattle.encoded_merge.proofs.Merging.{tables-work, tables-both, tables-pool}
-use borrow.Author.Needs.{needs}
 use Rattle.encoded_merge.proofs.has_tables.Statement.{statement}
 use Rattle.encoded_merge.proofs.has_tables.Tie as tie
 
 has-work-requires : tie.Need-has-work-requires
-has-work-requires c κs = search needs
+has-work-requires c κs = tt
 
 has-both-requires : tie.Need-has-both-requires
-has-both-requires c κs = search needs
+has-both-requires c κs = tt
 
 returns : tie.Need-returns
 returns c = tables-pool _ _ _ _ _ (c .before .before .before .before .before .has-work .ensures) (c .before .before .before .before .if1 .taken) _ (c .before .before .before .has-both .ensures) (c .before .before .if2 .taken)

@@ -23,22 +23,22 @@ returns : tie.Need-returns
 returns c = kept-broken _ _ _ _ _ _ _ (c .before .before .before .before .before .fits-in .ensures) (c .before .before .before .before .if1 .taken) _ (c .before .before .before .lawful .ensures) _ (c .before .rule .given .1)
 
 same-length : tie.Need-same-length
-same-length c = search (c .before .before .before .before .before .before .before .before .before .before .before .before .copy-at .kept, needs)
+same-length c = c .before .before .before .before .before .before .before .before .before .before .before .before .copy-at .kept .1 .1 .1 .1 .1 .1 .1 .1 .0
 
 same-length-2 : tie.Need-same-length-2
-same-length-2 c = search (c .before .before .before .before .before .before .before .before .before .before .before .before .copy-at .kept, needs)
+same-length-2 c = c .before .before .before .before .before .before .before .before .before .before .before .before .copy-at .kept .1 .1 .1 .1 .1 .1 .1 .1 .1 .0
 
 same-length-3 : tie.Need-same-length-3
-same-length-3 c = search (c .before .before .before .before .before .before .before .before .before .before .before .before .copy-at .kept, needs)
+same-length-3 c = c .before .before .before .before .before .before .before .before .before .before .before .before .copy-at .kept .1 .1 .1 .1 .1 .1 .1 .1 .1 .1 .0
 
 same-length-4 : tie.Need-same-length-4
-same-length-4 c = search (c .before .before .before .before .before .before .before .before .before .before .before .before .copy-at .kept, needs)
+same-length-4 c = c .before .before .before .before .before .before .before .before .before .before .before .before .copy-at .kept .1 .1 .1 .1 .1 .1 .1 .1 .1 .1 .1 .0
 
 same-length-5 : tie.Need-same-length-5
-same-length-5 c = search (c .before .before .before .before .before .before .before .before .before .before .before .before .copy-at .kept, needs)
+same-length-5 c = c .before .before .before .before .before .before .before .before .before .before .before .before .copy-at .kept .1 .1 .1 .1 .1 .1 .1 .1 .1 .1 .1 .1 .0
 
 same-length-6 : tie.Need-same-length-6
-same-length-6 c = search (c .before .before .before .before .before .before .before .before .before .before .before .before .copy-at .kept, needs)
+same-length-6 c = c .before .before .before .before .before .before .before .before .before .before .before .before .copy-at .kept .1 .1 .1 .1 .1 .1 .1 .1 .1 .1 .1 .1 .1 .0
 
 returns-2 : tie.Need-returns-2
 returns-2 c = c .before .before .before .before .before .before .before .before .before .before .before .before .copy-at .ensures ∙ kept-lawful _ _ _ _ _ _ _ (c .before .before .before .before .before .before .before .before .before .before .before .before .before .before .before .before .before .before .before .before .before .before .before .fits-in .ensures) (c .before .before .before .before .before .before .before .before .before .before .before .before .before .before .before .before .before .before .before .before .before .before .if1 .taken) _ (c .before .before .before .before .before .before .before .before .before .before .before .before .before .before .before .before .before .before .before .before .before .lawful .ensures) (c .before .before .before .before .before .before .before .before .before .before .before .before .before .before .before .before .before .before .before .enum-told .given .1)
