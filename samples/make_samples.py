@@ -96,10 +96,16 @@ FILES = {
     'limits.mp': limits(),
 }
 
-for name, data in FILES.items():
-    path = os.path.join(HERE, name)
-    if '--check' in sys.argv:
-        with open(path, 'rb') as f:
-            if f.read() != data: sys.exit(name + ' is not what make_samples.py writes')
-    else:
-        with open(path, 'wb') as f: f.write(data)
+
+def write(files):
+    """Writes them to this folder; with --check says whether they are there already, to the byte."""
+    for name, data in files.items():
+        path = os.path.join(HERE, name)
+        if '--check' in sys.argv:
+            with open(path, 'rb') as f:
+                if f.read() != data: sys.exit(name + ' is not what its script writes')
+        else:
+            with open(path, 'wb') as f: f.write(data)
+
+
+if __name__ == '__main__': write(FILES)

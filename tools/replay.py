@@ -11,7 +11,8 @@
 # part. Ranges are parts of numbers of two bytes, six for each: of its start and of its end the kind (0 unbounded, 1 included,
 # 2 excluded), the place and the length of the key; the places are in one part before them, the bytes of the call's ranges one
 # after the other. A filter is a number of two bytes and the mask's eight. An absent word is a part of no bytes, and a missing own range
-# six numbers 0.
+# six numbers 0. A union's parts are its manifests one after the other, numbers of two bytes that say where each ends, the paths and the
+# numbers of theirs, the checkpoints, and the fresh ids.
 # stdout is the answers, one a line, as the line protocol has them. Calls of an operation that crates/replay does not name are left out.
 import os, re, subprocess, sys
 
@@ -145,6 +146,12 @@ def filtered(word):
     return b'' if word == '.' else int(word[0]).to_bytes(2, 'big') + bytes.fromhex(word[2:])
 
 
+def joined(parts):
+    """The bytes one after the other as one part, and a part of the numbers at which each ends."""
+    ends = [sum(map(len, parts[:i + 1])) for i in range(len(parts))]
+    return part(b''.join(parts)) + part(b''.join(end.to_bytes(2, 'big') for end in ends))
+
+
 def frame(call):
     words = call.split(' ')
     operation, words = words[0], words[1:]
@@ -156,8 +163,8 @@ def frame(call):
     elif operation == 'clone':
         inside = b''.join(part(raw(word)) for word in words[:3]) + part(b''.join(map(raw, words[3].split(','))))
     elif operation == 'union':
-        inside = part(b''.join(map(raw, words[0].split(','))))
-        inside += b''.join(part(raw(word)) for source in words[1:] for word in source.split(':'))
+        manifests, paths, checkpoints = ([raw(source.split(':')[i]) for source in words[1:]] for i in range(3))
+        inside = joined(manifests) + joined(paths) + part(b''.join(checkpoints)) + part(b''.join(map(raw, words[0].split(','))))
     else:
         inside = b''.join(part(raw(word)) for word in words)
     return part(bytes([OPERATIONS.index(operation)]) + inside)

@@ -48,7 +48,7 @@ use Rattle.encoded_union.proofs.Rows.{holds-written, holds-before, part
 -- ---- cursors
 
 module _ (most : Fill) where
-  under-more : (a b c : Fill) → Under a b → Under b c → Under a c
+  pub under-more : (a b c : Fill) → Under a b → Under b c → Under a c
   under-more a b c u v =
       record {
         segments = omega (arith, u .segments, v .segments);
@@ -75,7 +75,7 @@ module _ (most : Fill) where
   behind-under c zero = under-self c
   behind-under c (suc k) = under-more c (plus c most) (behind most (plus c most) k) (under-plus c) (behind-under (plus c most) k)
 
-  behind-upto : (c : Fill) (i n : ℕ) → i ≤ n → Under (behind most c i) (behind most c n)
+  pub behind-upto : (c : Fill) (i n : ℕ) → i ≤ n → Under (behind most c i) (behind most c n)
   unfolding behind
   behind-upto c zero n h = behind-under c n
   behind-upto c (suc i) zero h = absurd (omega arith)
@@ -119,7 +119,7 @@ pub start-later : (ends : List ℕ) (k x y : ℕ) → (k ≡ 0 → ⊥) → y �
 start-later ends zero x y h e f = absurd (h refl)
 start-later ends (suc k) x y h e f = f ∙ e ∙ ap (at ends) (omega arith)
 
-or-false : (a b : Bool) → (a || b) ≡ false → (a ≡ false) × (b ≡ false)
+pub or-false : (a b : Bool) → (a || b) ≡ false → (a ≡ false) × (b ≡ false)
 or-false true b e = let z : _≡_ {A = ℕ} 0 1 = cc in absurd (omega arith)
 or-false false b e = (refl, e)
 

@@ -343,7 +343,8 @@ fn bad_piece(most: usize, n: usize, ends: &[u64], k: usize) -> bool
 }
 
 // Whether some of the first `count` parts is such.
-fn some_bad(most: usize, n: usize, ends: &[u64], count: usize) -> bool
+// inner
+pub fn some_bad(most: usize, n: usize, ends: &[u64], count: usize) -> bool
     requires { ⌜ count ≤ length (now ends) ⌝ }
     ensures { λ r. ⌜ r ≡ someBad most n (now (ends .entry)) count ⌝ }
 {

@@ -1,2 +1,3 @@
 pub mod Selects
 pub mod Projects
+pub mod Unions

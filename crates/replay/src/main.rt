@@ -2,7 +2,7 @@
 // as well. stdin has the calls of tests/data/replay.txt, stdout the original's answers; tools/replay.py makes both of that list.
 // Its form: a part is its length in two bytes, highest first, and so many bytes. stdin is a row of parts, one for each call; in
 // it stand the operation's number in one byte and the operation's parts.
-// replays: read lookup insert merge_from_writer merge_from_compactor select project owned clone
+// replays: read lookup insert merge_from_writer merge_from_compactor select project owned clone union
 use exports::Answer;
 use keys::part;
 use libc::STDIN_FILENO;
@@ -57,6 +57,10 @@ fn fourth(s: &[u8]) -> &[u8] {
 
 fn fifth(s: &[u8]) -> &[u8] {
     fourth(rest(s))
+}
+
+fn sixth(s: &[u8]) -> &[u8] {
+    fifth(rest(s))
 }
 
 // Six numbers of two bytes.
@@ -521,6 +525,201 @@ fn play_clone(s: &[u8]) {
     put_written(a, &out);
 }
 
+// A union's call, in tables that hold one source, all sources and the result.
+fn unite_in(
+    s: &[u8],
+    ends: &[u64],
+    paths: &[u8],
+    path_ends: &[u64],
+    checkpoints: &[u64],
+    fresh: &[u64],
+    most: &[u64; 6],
+    segments: &mut [u64],
+    views: &mut [u64],
+    runs: &mut [u64],
+    borrows: &mut [u64],
+    ids: &mut [u64],
+    all_segments: &mut [u64],
+    all_views: &mut [u64],
+    all_runs: &mut [u64],
+    all_borrows: &mut [u64],
+    all_ids: &mut [u64],
+    all_pool: &mut [u8],
+    lent_fresh: &mut [u64],
+    prefixes: &mut [u64],
+    owned: &mut [u64],
+    groups: &mut [u64],
+    sets: &mut [u64],
+    to_segments: &mut [u64],
+    to_views: &mut [u64],
+    to_runs: &mut [u64],
+    to_borrows: &mut [u64],
+    to_ids: &mut [u64],
+    to_pool: &mut [u8],
+    out: &mut [u8],
+) {
+    let a = exports::manifest_union(
+        s,
+        ends,
+        paths,
+        path_ends,
+        checkpoints,
+        fresh,
+        most,
+        segments,
+        views,
+        runs,
+        borrows,
+        ids,
+        all_segments,
+        all_views,
+        all_runs,
+        all_borrows,
+        all_ids,
+        all_pool,
+        lent_fresh,
+        prefixes,
+        owned,
+        groups,
+        sets,
+        to_segments,
+        to_views,
+        to_runs,
+        to_borrows,
+        to_ids,
+        to_pool,
+        out,
+    );
+    put_written(a, out);
+}
+
+// The same, given the tables that hold all sources.
+fn unite_all(
+    s: &[u8],
+    ends: &[u64],
+    paths: &[u8],
+    path_ends: &[u64],
+    checkpoints: &[u64],
+    fresh: &[u64],
+    all_segments: &mut [u64],
+    all_views: &mut [u64],
+    all_runs: &mut [u64],
+    all_borrows: &mut [u64],
+    all_ids: &mut [u64],
+    all_pool: &mut [u8],
+    lent_fresh: &mut [u64],
+    prefixes: &mut [u64],
+    owned: &mut [u64],
+    groups: &mut [u64],
+    sets: &mut [u64],
+) {
+    let mut segments = [0u64; 768];
+    let mut views = [0u64; 8192];
+    let mut runs = [0u64; 384];
+    let mut borrows = [0u64; 288];
+    let mut ids = [0u64; 1024];
+    let mut to_segments = [0u64; 768];
+    let mut to_views = [0u64; 8192];
+    let mut to_runs = [0u64; 384];
+    let mut to_borrows = [0u64; 288];
+    let mut to_ids = [0u64; 1024];
+    let mut to_pool = [0u8; 8192];
+    let mut out = [0u8; 65536];
+    let most = room();
+    unite_in(
+        s,
+        ends,
+        paths,
+        path_ends,
+        checkpoints,
+        fresh,
+        &most,
+        &mut segments,
+        &mut views,
+        &mut runs,
+        &mut borrows,
+        &mut ids,
+        all_segments,
+        all_views,
+        all_runs,
+        all_borrows,
+        all_ids,
+        all_pool,
+        lent_fresh,
+        prefixes,
+        owned,
+        groups,
+        sets,
+        &mut to_segments,
+        &mut to_views,
+        &mut to_runs,
+        &mut to_borrows,
+        &mut to_ids,
+        &mut to_pool,
+        &mut out,
+    );
+}
+
+// The same, given none: with room for eight sources and 512 bytes of paths, and for 512 words of fresh ids.
+fn unite(
+    s: &[u8],
+    ends: &[u64],
+    paths: &[u8],
+    path_ends: &[u64],
+    checkpoints: &[u64],
+    fresh: &[u64],
+) {
+    let mut all_segments = [0u64; 6144];
+    let mut all_views = [0u64; 65536];
+    let mut all_runs = [0u64; 3072];
+    let mut all_borrows = [0u64; 2304];
+    let mut all_ids = [0u64; 8192];
+    let mut all_pool = [0u8; 66048];
+    let mut lent_fresh = [0u64; 576];
+    let mut prefixes = [0u64; 1024];
+    let mut owned = [0u64; 1024];
+    let mut groups = [0u64; 1584];
+    let mut sets = [0u64; 16384];
+    unite_all(
+        s,
+        ends,
+        paths,
+        path_ends,
+        checkpoints,
+        fresh,
+        &mut all_segments,
+        &mut all_views,
+        &mut all_runs,
+        &mut all_borrows,
+        &mut all_ids,
+        &mut all_pool,
+        &mut lent_fresh,
+        &mut prefixes,
+        &mut owned,
+        &mut groups,
+        &mut sets,
+    );
+}
+
+fn play_union(s: &[u8]) {
+    let mut ends = [0u64; 512];
+    let mut path_ends = [0u64; 512];
+    let mut checkpoints = [0u64; 512];
+    let mut fresh = [0u64; 512];
+    let a = numbers(second(s), &mut ends);
+    let b = numbers(fourth(s), &mut path_ends);
+    let c = words(fifth(s), &mut checkpoints);
+    let d = words(sixth(s), &mut fresh);
+    unite(
+        first(s),
+        front(&ends, a),
+        third(s),
+        front(&path_ends, b),
+        front(&checkpoints, c),
+        front(&fresh, d),
+    );
+}
+
 fn play_any(operation: u8, s: &[u8]) {
     match operation {
         3 => play_merge(operation, s),
@@ -528,6 +727,7 @@ fn play_any(operation: u8, s: &[u8]) {
         6 => play_project(s),
         7 => play_owned(s),
         8 => play_clone(s),
+        9 => play_union(s),
         _ => play(operation, s),
     }
     put(b"\n");

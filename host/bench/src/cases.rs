@@ -1,9 +1,9 @@
-//! What is timed: each operation that the port has, on one manifest.
+//! What is timed: each operation that the port has, on one manifest, and union on several.
 
 #[cfg(feature = "msgpack")]
 use crate::msgpack;
 use crate::tables::{self, Tables};
-use manifest::{Insertion, Lent, Projection, Room, Selection, Tree, ENCODED};
+use manifest::{Insertion, Lent, Projection, Room, Selection, Source, Tree, ENCODED};
 use oracle::timed::{self, Loaded};
 use std::ops::Bound::{Excluded, Included};
 
@@ -245,4 +245,22 @@ fn cloned(manifest: &[u8]) -> Option<Case<'_>> {
         whole: both(port, original),
         alone: None,
     })
+}
+
+/// The union is written.
+pub fn union<'a>(sources: &'a [Source<'a>]) -> Case<'a> {
+    let fresh: Vec<u128> = (1..=40).collect();
+    let (mut lent, again) = (Lent::new(), fresh.clone());
+    let original = move || {
+        let loaded = sources.iter().map(|source| (Loaded::from(source.manifest), source.path, source.checkpoint));
+        timed::union(loaded, &again).bytes()
+    };
+    let anew = lent.union(sources, &fresh, &Room::L1).expect("the union has room").to_vec();
+    assert_eq!(anew, original(), "what is timed is the same");
+    let port = move || lent.union(sources, &fresh, &Room::L1).expect("the union has room").len();
+    Case {
+        operation: "union",
+        whole: both(port, move || original().len()),
+        alone: None,
+    }
 }

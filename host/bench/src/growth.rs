@@ -31,28 +31,28 @@ const LIMITS: [Limit; 6] = [
     ("bytes", 8_064, |n| Size { segments: 2, views: 64, key: n / 128, ..Size::default() }),
 ];
 
-fn array(parts: &[Vec<u8>]) -> Vec<u8> {
+pub fn array(parts: &[Vec<u8>]) -> Vec<u8> {
     let count = parts.len() as u16;
     let head =
         if count < 16 { vec![0x90 | count as u8] } else { [&[0xdc], &count.to_be_bytes()[..]].concat() };
     [head, parts.concat()].concat()
 }
 
-fn binary(bytes: &[u8]) -> Vec<u8> {
+pub fn binary(bytes: &[u8]) -> Vec<u8> {
     [&[0xc4, bytes.len() as u8], bytes].concat()
 }
 
-fn list(count: usize, part: impl Fn(usize) -> Vec<u8>) -> Vec<u8> {
+pub fn list(count: usize, part: impl Fn(usize) -> Vec<u8>) -> Vec<u8> {
     array(&(0..count).map(part).collect::<Vec<_>>())
 }
 
-fn id(number: usize) -> Vec<u8> {
+pub fn id(number: usize) -> Vec<u8> {
     binary(&(number as u128).to_be_bytes())
 }
 
-const NIL: [u8; 1] = [0xc0];
+pub const NIL: [u8; 1] = [0xc0];
 
-fn tree(l0: Vec<u8>, runs: Vec<u8>) -> Vec<u8> {
+pub fn tree(l0: Vec<u8>, runs: Vec<u8>) -> Vec<u8> {
     array(&[NIL.to_vec(), NIL.to_vec(), l0, runs])
 }
 

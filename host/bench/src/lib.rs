@@ -8,6 +8,7 @@ mod growth;
 mod msgpack;
 #[cfg(feature = "program")]
 mod program;
+mod sources;
 mod tables;
 
 use cases::{Both, Case};
@@ -17,8 +18,12 @@ pub fn table(near: &[u8]) -> String {
     let mut text = "| operation | manifest | port | original | ratio | alone: port | original | ratio |\n\
         |---|---|---|---|---|---|---|---|\n"
         .to_string();
-    for (name, manifest) in [("small", cases::small()), ("near every limit", near.to_vec())] {
-        for Case { operation, whole, alone } in cases::all(&manifest) {
+    let small = ("small", cases::small(), &sources::SMALL);
+    for (name, manifest, shape) in [small, ("near every limit", near.to_vec(), &sources::LARGE)] {
+        let manifests = sources::manifests(shape);
+        let sources = sources::sources(&manifests);
+        let union = cases::union(&sources);
+        for Case { operation, whole, alone } in cases::all(&manifest).into_iter().chain([union]) {
             text += &format!("| {operation} | {name} | {} | {} |\n", cells(whole), cells(alone));
         }
     }

@@ -205,7 +205,7 @@ fn clone(maker: &mut Maker) -> String {
 fn union(maker: &mut Maker) -> String {
     let count = 8;
     let past = maker.random.below(2);
-    let kind = maker.random.below(5);
+    let kind = maker.random.below(6);
     let fresh = maker.fresh(40);
     let mut call = format!("union {fresh}");
     for i in 0..count {
@@ -225,6 +225,8 @@ fn union(maker: &mut Maker) -> String {
                 manifest.tree.l0 = views(maker, 64 + more);
                 manifest.tree.l0.iter_mut().for_each(|view| view.sst[0] = key[0]);
             }
+            // Bytes.
+            4 => manifest.tree.l0 = views(maker, 8),
             // Segments.
             _ => {
                 manifest.extractor = Some(b"x".to_vec());
@@ -238,9 +240,14 @@ fn union(maker: &mut Maker) -> String {
         // Each source has one key of its own.
         let all =
             manifest.tree.l0.iter_mut().chain(manifest.tree.runs.iter_mut().flat_map(|run| &mut run.views));
+        let length = if kind == 4 { 64 } else { 1 };
         for view in all {
-            view.first = key.to_vec();
-            view.last = Some(key.to_vec());
+            view.first = vec![key[0]; length];
+            view.last = Some(view.first.clone());
+        }
+        if kind == 4 && i == 0 {
+            // The eight paths take a byte each.
+            manifest.tree.l0[0].first.truncate(56 + past);
         }
         let checkpoint = maker.id(4);
         call += &format!(" {}:{}:{}", manifest_word(&manifest), to_hex(&key), to_hex(&checkpoint));

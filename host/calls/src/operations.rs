@@ -321,6 +321,9 @@ impl Maker {
                 }
             }
         }
+        if self.random.chance(12) {
+            self.touch(&mut sources, name.is_some());
+        }
         let paths: &[&[u8]] = if self.random.chance(50) { &PATHS } else { &PATHS[1..3] };
         let needed: usize = sources.iter().map(|manifest| manifest.borrows.len() + 1).sum();
         let lent = if self.spoil(4) { self.random.below(needed + 1) } else { needed };
@@ -332,6 +335,26 @@ impl Maker {
             call += &format!(" {}:{}:{}", self.source_word(manifest), to_hex(&path), to_hex(&checkpoint));
         }
         call
+    }
+
+    /// Each source ends at the key at which another starts, so that the kinds of two bounds decide whether they overlap.
+    fn touch(&mut self, sources: &mut [Manifest], segmented: bool) {
+        let mut places: Vec<u8> = (0..sources.len() as u8).collect();
+        self.random.shuffle(&mut places);
+        let lead: &[u8] = if segmented { b"c" } else { b"" };
+        let cut = |place: u8| [lead, &[0x10 + 0x10 * place]].concat();
+        for (manifest, place) in sources.iter_mut().zip(places) {
+            let mut view = self.bare_view(&cut(place), None);
+            let past = !self.style.included && self.random.chance(30);
+            let (start, end) = ((past, cut(place)), (self.random.chance(90), cut(place + 1)));
+            view.visible = Some(Range { start: Some(start), end: Some(end) });
+            let tree = Tree { l0: vec![view], ..Tree::default() };
+            if segmented {
+                manifest.segments = vec![Segment { prefix: lead.to_vec(), tree }];
+            } else {
+                manifest.tree = tree;
+            }
+        }
     }
 
     /// A union has several manifests, so each of them is spoilt less often.

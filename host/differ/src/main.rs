@@ -1,18 +1,7 @@
 //! The runner. It holds programs that speak the line protocol against one another, call by call.
 
-mod classes;
-mod judge;
-mod room;
-mod run;
-mod show;
-mod shrink;
-mod spans;
-mod speaker;
-mod table;
-mod wrong;
-
 use calls::{random, short, History, Style, OPERATIONS};
-use run::Run;
+use differ::{classes, show, wrong, Run};
 use std::io::{self, BufRead};
 use std::process::ExitCode;
 use std::time::Instant;

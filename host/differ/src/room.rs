@@ -24,7 +24,7 @@ pub fn expected(room: &Room, bare: &str, answer: &str) -> String {
 }
 
 /// What the result fills of each table. Lookup, selection and a prefix that was found fill nothing.
-fn filled(operation: &str, answer: &str) -> Room {
+pub fn filled(operation: &str, answer: &str) -> Room {
     let words: Vec<&str> = answer.split(' ').collect();
     let mut room = [0; 6];
     match (operation, words.as_slice()) {

@@ -122,6 +122,11 @@ impl Run {
         (0..calls.len()).map(of).collect()
     }
 
+    /// Whether they answer this call differently, asked about it alone.
+    pub fn differ_on(&self, call: &str) -> bool {
+        self.kinds(&[call.to_string()])[0].0 == Verdict::Different
+    }
+
     /// The first difference, made as small as it goes while the answers stay of their kinds.
     pub fn shrunk(&self) -> Option<String> {
         let first = self.first.as_ref()?;

@@ -68,9 +68,16 @@ impl Speaker {
     }
 }
 
+/// A program's path, and the word that lends it pages if that follows.
+fn on_pages(name: &str) -> (&str, Option<&str>) {
+    name.strip_suffix(" --pages").map_or((name, None), |path| (path, Some("--pages")))
+}
+
 /// What a program writes on some input, line by line.
 fn run(path: &str, words: &[&str], text: String) -> io::Result<Vec<String>> {
-    let mut child = Command::new(path).args(words).stdin(Stdio::piped()).stdout(Stdio::piped()).spawn()?;
+    let (path, pages) = on_pages(path);
+    let mut child =
+        Command::new(path).args(pages).args(words).stdin(Stdio::piped()).stdout(Stdio::piped()).spawn()?;
     let mut input = child.stdin.take().expect("a pipe");
     // A thread of its own, since the program may answer before it has read everything.
     let writer = thread::spawn(move || input.write_all(text.as_bytes()));
@@ -81,7 +88,8 @@ fn run(path: &str, words: &[&str], text: String) -> io::Result<Vec<String>> {
 }
 
 /// The operations that a program says it has. One that says nothing has all of them.
-fn listed(path: &str) -> Result<Vec<&'static str>, String> {
+pub fn listed(path: &str) -> Result<Vec<&'static str>, String> {
+    let (path, _) = on_pages(path);
     let lines = run(path, &["--operations"], String::new()).map_err(|error| format!("{path}: {error}"))?;
     let has = |operation: &&str| lines.is_empty() || lines.iter().any(|line| line == operation);
     Ok(OPERATIONS.into_iter().filter(has).collect())

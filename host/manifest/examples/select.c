@@ -1,10 +1,24 @@
 /* Which segments of a manifest hold keys from one key on, up to but not including another:
- *   select samples/three.mp b/1 c/
+ *   select samples/north.mp ct/12/001 ct/19/
  */
 #include "manifest.h"
 
 #include <stdio.h>
 #include <string.h>
+
+/* The refusals that selection gives, in words. */
+static void print_refusal(struct manifest_answer answer)
+{
+    switch (answer.number) {
+    case 1: printf("refused: the manifest breaks rule L%zu\n", answer.first); break;
+    case 2: printf("refused: an argument is over its limit\n"); break;
+    case 4: printf("refused: a working table is too short\n"); break;
+    case 5: printf("refused: no key is in the range\n"); break;
+    case 18: printf("refused: no well-formed MessagePack from byte %zu on\n", answer.first); break;
+    case 19: printf("refused: not a manifest: the value at byte %zu is wrong\n", answer.first); break;
+    default: printf("refused: %zu at %zu\n", answer.number, answer.first); break;
+    }
+}
 
 static uint8_t bytes[MANIFEST_ENCODED + 1];
 static struct manifest_work work;
@@ -40,7 +54,7 @@ int main(int argc, char **argv)
     struct manifest_answer answer =
         manifest_select(bytes, length, args, from + to, &range, MANIFEST_WORK(&work));
     if (answer.number != 0)
-        printf("refused %zu at %zu\n", answer.number, answer.first);
+        print_refusal(answer);
     else if (answer.first == 0)
         printf("unsegmented\n");
     else

@@ -1,10 +1,10 @@
-//! Which segments of a manifest hold keys from one key on, up to but not including another, and how long it is anew:
-//!   select samples/three.mp b/1 c/
+//! Which segments of a manifest hold keys from one key on, up to but not including another, and how long it is written anew:
+//!   select samples/north.mp ct/12/001 ct/19/
 
 use manifest::{Lent, Room, Selection};
 use std::ops::Bound;
 
-fn main() {
+pub fn main() {
     let words: Vec<String> = std::env::args().skip(1).collect();
     let [file, from, to] = &words[..] else {
         eprintln!("usage: select FILE FROM TO");

@@ -1,7 +1,7 @@
 //! Manifests of an archive: the proved functions of `crates/exports`, safe to call from Rust.
 //!
 //! All working memory is in a [`Lent`], made once and used for any number of calls; a call allocates nothing but the
-//! bytes of a range argument. `include/manifest.h` says what each entry point promises.
+//! bytes of its arguments. `include/manifest.h` says what each entry point promises.
 
 use std::fmt;
 use std::ops::{Bound, Range};
@@ -168,6 +168,39 @@ pub mod c {
             pool: *mut u8, pool_len: usize,
             out: *mut u8, out_len: usize,
         ) -> Answer;
+
+        pub fn manifest_union(
+            s: *const u8, s_len: usize,
+            ends: *const u64, ends_len: usize,
+            paths: *const u8, paths_len: usize,
+            path_ends: *const u64, path_ends_len: usize,
+            checkpoints: *const u64, checkpoints_len: usize,
+            fresh: *const u64, fresh_len: usize,
+            room: *const [u64; 6],
+            segments: *mut u64, segments_len: usize,
+            views: *mut u64, views_len: usize,
+            runs: *mut u64, runs_len: usize,
+            borrows: *mut u64, borrows_len: usize,
+            ids: *mut u64, ids_len: usize,
+            all_segments: *mut u64, all_segments_len: usize,
+            all_views: *mut u64, all_views_len: usize,
+            all_runs: *mut u64, all_runs_len: usize,
+            all_borrows: *mut u64, all_borrows_len: usize,
+            all_ids: *mut u64, all_ids_len: usize,
+            all_pool: *mut u8, all_pool_len: usize,
+            lent_fresh: *mut u64, lent_fresh_len: usize,
+            prefixes: *mut u64, prefixes_len: usize,
+            owned: *mut u64, owned_len: usize,
+            groups: *mut u64, groups_len: usize,
+            sets: *mut u64, sets_len: usize,
+            to_segments: *mut u64, to_segments_len: usize,
+            to_views: *mut u64, to_views_len: usize,
+            to_runs: *mut u64, to_runs_len: usize,
+            to_borrows: *mut u64, to_borrows_len: usize,
+            to_ids: *mut u64, to_ids_len: usize,
+            to_pool: *mut u8, to_pool_len: usize,
+            out: *mut u8, out_len: usize,
+        ) -> Answer;
     }
 }
 
@@ -194,6 +227,11 @@ impl fmt::Display for Refusal {
             8 => write!(f, "the own range of tree {place} holds no key"),
             9 => write!(f, "the own range of tree {place} is not within its prefix"),
             10 => write!(f, "the filter names segment {place}, which there is not"),
+            11 => write!(f, "the sources have different extractor names"),
+            12 if place == 0 => write!(f, "the ranges of two sources overlap"),
+            12 => write!(f, "the ranges of two segments overlap, of the sources' prefix {}", place - 1),
+            13 => write!(f, "a source has segments, but no extractor"),
+            14 => write!(f, "prefixes of the sources nest"),
             18 => write!(f, "no well-formed MessagePack from byte {place} on"),
             19 => write!(f, "not a manifest: the value at byte {place} is wrong"),
             number => write!(f, "refusal {number} at {place}"),
@@ -267,6 +305,17 @@ pub struct Projection<'a> {
     pub own: Option<&'a [Keys<'a>]>,
 }
 
+/// What a union is made of: a manifest, where it is, and the checkpoint that keeps it.
+#[derive(Clone, Copy, Debug)]
+pub struct Source<'a> {
+    pub manifest: &'a [u8],
+    pub path: &'a [u8],
+    pub checkpoint: u128,
+}
+
+/// The most sources of a union.
+pub const SOURCES: usize = 8;
+
 /// The longest encoded manifest.
 pub const ENCODED: usize = 65_536;
 
@@ -283,15 +332,17 @@ pub struct Lent {
     out_borrows: Vec<u64>,
     out_ids: Vec<u64>,
     out_pool: Vec<u8>,
-    both: Both,
+    both: Several,
     /// The bytes of a projection's arguments, and of the manifest behind them.
     behind: Vec<u8>,
     used: Vec<u64>,
+    /// For a union alone, made at the first one.
+    all: Option<All>,
     out: Vec<u8>,
 }
 
-/// The tables that hold two manifests at a time.
-struct Both {
+/// The tables that hold several manifests at a time.
+struct Several {
     segments: Vec<u64>,
     views: Vec<u64>,
     runs: Vec<u64>,
@@ -300,15 +351,38 @@ struct Both {
     pool: Vec<u8>,
 }
 
-impl Default for Both {
-    fn default() -> Both {
-        Both {
-            segments: vec![0; 2 * 64 * 12],
-            views: vec![0; 2 * 512 * 16],
-            runs: vec![0; 2 * 128 * 3],
-            borrows: vec![0; 2 * 32 * 9],
-            ids: vec![0; 2 * 512 * 2],
-            pool: vec![0; 2 * 8_192],
+impl Several {
+    fn of(count: usize) -> Several {
+        Several {
+            segments: vec![0; count * 64 * 12],
+            views: vec![0; count * 512 * 16],
+            runs: vec![0; count * 128 * 3],
+            borrows: vec![0; count * 32 * 9],
+            ids: vec![0; count * 512 * 2],
+            pool: vec![0; count * 8_192],
+        }
+    }
+}
+
+/// The memory of a union: all sources, its list of fresh UUIDs, prefixes, one source's own ids, groups of borrows and their id sets.
+struct All {
+    sources: Several,
+    fresh: Vec<u64>,
+    prefixes: Vec<u64>,
+    owned: Vec<u64>,
+    groups: Vec<u64>,
+    sets: Vec<u64>,
+}
+
+impl Default for All {
+    fn default() -> All {
+        All {
+            sources: Several::of(SOURCES),
+            fresh: vec![],
+            prefixes: vec![0; SOURCES * 64 * 2],
+            owned: vec![0; 512 * 2],
+            groups: vec![0; SOURCES * (32 + 1) * 6],
+            sets: vec![0; SOURCES * (512 + 512) * 2],
         }
     }
 }
@@ -342,9 +416,10 @@ impl Default for Lent {
             out_borrows: vec![0; 32 * 9],
             out_ids: vec![0; 512 * 2],
             out_pool: vec![0; 8_192],
-            both: Both::default(),
+            both: Several::of(2),
             behind: vec![0; 8_192],
             used: vec![0; 512 * 2],
+            all: None,
             out: vec![0; ENCODED],
         }
     }
@@ -525,6 +600,54 @@ impl Lent {
         let answer = good(answer)?;
         Ok(&self.out[..answer.first])
     }
+
+    /// The union of up to eight sources. It takes one fresh UUID for each of its borrows.
+    pub fn union(&mut self, sources: &[Source<'_>], fresh: &[u128], room: &Room) -> Result<&[u8], Refusal> {
+        let room = room.numbers();
+        let (s, ends) = joined(sources.iter().map(|source| source.manifest));
+        let (paths, path_ends) = joined(sources.iter().map(|source| source.path));
+        let checkpoints: Vec<u64> = sources.iter().flat_map(|source| halves(&source.checkpoint)).collect();
+        let fresh: Vec<u64> = fresh.iter().flat_map(halves).collect();
+        let all = self.all.get_or_insert_with(All::default);
+        // The paths stand before the sources' own bytes; behind the fresh UUIDs there is room for twice a manifest's borrows.
+        all.sources.pool.resize(SOURCES * 8_192 + paths.len(), 0);
+        all.fresh.resize(fresh.len() + 2 * 32, 0);
+        // SAFETY: as in `read`.
+        let answer = unsafe {
+            with_tables!(c::manifest_union, self, s.as_ptr(), s.len(), ends.as_ptr(), ends.len(), paths.as_ptr(), paths.len(),
+                path_ends.as_ptr(), path_ends.len(), checkpoints.as_ptr(), checkpoints.len(), fresh.as_ptr(), fresh.len(), &room;
+                all.sources.segments.as_mut_ptr(), all.sources.segments.len(),
+                all.sources.views.as_mut_ptr(), all.sources.views.len(),
+                all.sources.runs.as_mut_ptr(), all.sources.runs.len(),
+                all.sources.borrows.as_mut_ptr(), all.sources.borrows.len(),
+                all.sources.ids.as_mut_ptr(), all.sources.ids.len(),
+                all.sources.pool.as_mut_ptr(), all.sources.pool.len(),
+                all.fresh.as_mut_ptr(), all.fresh.len(),
+                all.prefixes.as_mut_ptr(), all.prefixes.len(),
+                all.owned.as_mut_ptr(), all.owned.len(),
+                all.groups.as_mut_ptr(), all.groups.len(),
+                all.sets.as_mut_ptr(), all.sets.len(),
+                self.out_segments.as_mut_ptr(), self.out_segments.len(),
+                self.out_views.as_mut_ptr(), self.out_views.len(),
+                self.out_runs.as_mut_ptr(), self.out_runs.len(),
+                self.out_borrows.as_mut_ptr(), self.out_borrows.len(),
+                self.out_ids.as_mut_ptr(), self.out_ids.len(),
+                self.out_pool.as_mut_ptr(), self.out_pool.len(),
+                self.out.as_mut_ptr(), self.out.len())
+        };
+        let answer = good(answer)?;
+        Ok(&self.out[..answer.first])
+    }
+}
+
+/// Parts one after the other, and where each of them ends.
+fn joined<'a>(parts: impl Iterator<Item = &'a [u8]>) -> (Vec<u8>, Vec<u64>) {
+    let (mut bytes, mut ends) = (vec![], vec![]);
+    for part in parts {
+        bytes.extend_from_slice(part);
+        ends.push(bytes.len() as u64);
+    }
+    (bytes, ends)
 }
 
 /// An id's two words, the high one first.

@@ -2,6 +2,8 @@
 //! judged here: the original has no check of L1 to L5.
 
 use crate::bytes_range::BytesRange;
+use crate::checkpoint::Checkpoint;
+use crate::clone::CloneSource;
 use crate::convert::{from_manifest, from_segments, to_manifest, to_text};
 use crate::manifest::{merge_segments_from_compactor, merge_segments_from_writer, Manifest, ProjectionConfig, Segment};
 use crate::records;
@@ -80,13 +82,29 @@ impl Loaded {
         self.0.owned_ssts().len()
     }
 
-    // The original asks for an `Arc`, and hands it to no other thread.
-    #[allow(clippy::arc_with_non_send_sync)]
     pub fn cloned(&self, path: &[u8], checkpoint: u128, fresh: &[u128]) -> Loaded {
-        let uuid = |id: u128| Uuid::from_bytes(id.to_be_bytes());
-        let fresh = Arc::new(DbRand::lent(fresh.iter().copied().map(uuid).collect()));
-        Loaded(Manifest::cloned(&self.0, to_text(path), uuid(checkpoint), fresh))
+        Loaded(Manifest::cloned(&self.0, to_text(path), uuid(checkpoint), lent(fresh)))
     }
+}
+
+fn uuid(id: u128) -> Uuid {
+    Uuid::from_bytes(id.to_be_bytes())
+}
+
+// The original asks for an `Arc`, and hands it to no other thread.
+#[allow(clippy::arc_with_non_send_sync)]
+fn lent(fresh: &[u128]) -> Arc<DbRand> {
+    Arc::new(DbRand::lent(fresh.iter().copied().map(uuid).collect()))
+}
+
+/// The union of manifests, each with its path and checkpoint.
+pub fn union<'a>(sources: impl Iterator<Item = (Loaded, &'a [u8], u128)>, fresh: &[u128]) -> Loaded {
+    let source = |(loaded, path, checkpoint): (Loaded, &[u8], u128)| CloneSource {
+        path: to_text(path).into(),
+        manifest: loaded.0,
+        checkpoint: Checkpoint { id: uuid(checkpoint) },
+    };
+    Loaded(Manifest::cloned_from_union(sources.map(source).collect(), lent(fresh)).expect("the sources are disjoint"))
 }
 
 /// A segment list in the original's own records.

@@ -1,14 +1,20 @@
 //! Ports that keep a promise badly, each in one way, to show that the host says so.
 
-use crate::operations::{Host, POOL, ROWS};
+use crate::operations::{Host, FRESH, POOL, ROWS, UNITED};
 use manifest::c::Answer;
-use manifest::ENCODED;
+use manifest::{ENCODED, SOURCES};
 use std::cell::Cell;
+use std::os::unix::process::ExitStatusExt;
+use std::process::{Command, Stdio};
 use std::slice;
 
 #[derive(Clone, Copy, Debug, PartialEq)]
 enum Fault {
     None,
+    ReadsPastTheInput,
+    WritesTheInput,
+    ReadsPastTheRoom,
+    ReadsPastATable,
     /// The output changes in a refused call.
     WritesThenRefuses,
     WritesPastTheResult,
@@ -25,6 +31,13 @@ enum Fault {
     WritesPastAResultTable,
     WritesPastThePool,
     TakesShortResults,
+    /// Of a union's memory for all sources.
+    WritesPastTheSourcesPool,
+    WritesPastTheSets,
+    WritesPastTheFresh,
+    TakesShortSources,
+    TakesShortSets,
+    TakesAShortFresh,
 }
 
 const FAULTS: [Fault; 10] = [
@@ -48,6 +61,16 @@ const MORE: [Fault; 4] = [
     Fault::TakesShortResults,
 ];
 
+/// Those of a union.
+const OF_ALL: [Fault; 6] = [
+    Fault::WritesPastTheSourcesPool,
+    Fault::WritesPastTheSets,
+    Fault::WritesPastTheFresh,
+    Fault::TakesShortSources,
+    Fault::TakesShortSets,
+    Fault::TakesAShortFresh,
+];
+
 thread_local! {
     static FAULT: Cell<Fault> = const { Cell::new(Fault::None) };
 }
@@ -60,6 +83,13 @@ fn is(fault: Fault) -> bool {
 unsafe fn spoil(fault: Fault, cell: *mut u8) {
     if is(fault) {
         *cell = !*cell;
+    }
+}
+
+/// Reads the cell unless there is no such fault.
+unsafe fn peep<T>(fault: Fault, cell: *const T) {
+    if is(fault) {
+        cell.cast::<u8>().read_volatile();
     }
 }
 
@@ -77,6 +107,8 @@ unsafe fn copied(s: &[u8], table: (*mut u64, usize), out: (*mut u8, usize)) -> R
     spoil(Fault::WritesPastTheOutput, out.0.add(out.1));
     spoil(Fault::WritesBeforeTheOutput, out.0.sub(1));
     spoil(Fault::WritesPastATable, table.0.add(table.1).cast());
+    peep(Fault::ReadsPastATable, table.0.add(table.1));
+    peep(Fault::ReadsPastTheInput, s.as_ptr().add(s.len()));
     if s.is_empty() {
         return Err(Answer { number: 18, ..Answer::default() });
     }
@@ -101,7 +133,7 @@ unsafe fn copied(s: &[u8], table: (*mut u64, usize), out: (*mut u8, usize)) -> R
 unsafe extern "C" fn manifest_read(
     s: *const u8,
     s_len: usize,
-    _: *const [u64; 6],
+    room: *const [u64; 6],
     _: *mut u64,
     segments: usize,
     _: *mut u64,
@@ -115,6 +147,10 @@ unsafe extern "C" fn manifest_read(
     out: *mut u8,
     out_len: usize,
 ) -> Answer {
+    peep(Fault::ReadsPastTheRoom, room.add(1));
+    if s_len > 0 {
+        spoil(Fault::WritesTheInput, s.cast_mut());
+    }
     if !long_enough(Fault::TakesShortTables, [segments, views, runs, borrows, ids]) {
         return NO_ROOM;
     }
@@ -213,14 +249,112 @@ unsafe extern "C" fn manifest_project() -> Answer {
     Answer::default()
 }
 
+/// As long as they must be, or that is overlooked.
+fn so_long<const N: usize>(fault: Fault, lent: [usize; N], least: [usize; N]) -> bool {
+    is(fault) || lent.iter().zip(least).all(|(lent, least)| *lent >= least)
+}
+
+/// The sources' bytes, one after the other.
+#[no_mangle]
+unsafe extern "C" fn manifest_union(
+    s: *const u8,
+    s_len: usize,
+    _: *const u64,
+    _: usize,
+    _: *const u8,
+    paths: usize,
+    _: *const u64,
+    _: usize,
+    _: *const u64,
+    _: usize,
+    _: *const u64,
+    fresh: usize,
+    _: *const [u64; 6],
+    _: *mut u64,
+    segments: usize,
+    _: *mut u64,
+    views: usize,
+    table: *mut u64,
+    runs: usize,
+    _: *mut u64,
+    borrows: usize,
+    _: *mut u64,
+    ids: usize,
+    _: *mut u64,
+    all_segments: usize,
+    _: *mut u64,
+    all_views: usize,
+    _: *mut u64,
+    all_runs: usize,
+    _: *mut u64,
+    all_borrows: usize,
+    _: *mut u64,
+    all_ids: usize,
+    all_pool: *mut u8,
+    all_pool_len: usize,
+    lent_fresh: *mut u64,
+    lent_fresh_len: usize,
+    _: *mut u64,
+    prefixes: usize,
+    _: *mut u64,
+    owned: usize,
+    _: *mut u64,
+    groups: usize,
+    sets: *mut u64,
+    sets_len: usize,
+    _: *mut u64,
+    to_segments: usize,
+    _: *mut u64,
+    to_views: usize,
+    to_table: *mut u64,
+    to_runs: usize,
+    _: *mut u64,
+    to_borrows: usize,
+    _: *mut u64,
+    to_ids: usize,
+    to_pool: *mut u8,
+    to_pool_len: usize,
+    out: *mut u8,
+    out_len: usize,
+) -> Answer {
+    spoil(Fault::WritesPastAResultTable, to_table.add(to_runs).cast());
+    spoil(Fault::WritesPastThePool, to_pool.add(to_pool_len));
+    spoil(Fault::WritesPastTheSourcesPool, all_pool.add(all_pool_len));
+    spoil(Fault::WritesPastTheSets, sets.add(sets_len).cast());
+    spoil(Fault::WritesPastTheFresh, lent_fresh.add(lent_fresh_len).cast());
+    let all = [all_segments, all_views, all_runs, all_borrows, all_ids];
+    let to = [to_segments, to_views, to_runs, to_borrows, to_ids];
+    let long = long_enough(Fault::TakesShortTables, [segments, views, runs, borrows, ids])
+        && long_enough(Fault::TakesShortResults, to)
+        && so_long(Fault::TakesShortResults, [to_pool_len], [POOL])
+        && so_long(Fault::TakesShortSources, all, ROWS.map(|count| SOURCES * count))
+        && so_long(Fault::TakesShortSources, [all_pool_len], [SOURCES * POOL + paths])
+        && so_long(Fault::TakesAShortFresh, [lent_fresh_len], [fresh + FRESH])
+        && so_long(Fault::TakesShortSets, [prefixes, owned, groups, sets_len], UNITED);
+    if !long {
+        return NO_ROOM;
+    }
+    let third = usize::from(is(Fault::HasNumbersLeft));
+    match copied(slice::from_raw_parts(s, s_len), (table, runs), (out, out_len)) {
+        Ok(first) => Answer { first, third, ..Answer::default() },
+        Err(refusal) => refusal,
+    }
+}
+
 const READ: [&str; 3] = ["read c0", "read -", "read 93c0c0c0"];
 const INSERT: [&str; 3] = ["insert c0 61", "insert - 61", "insert 93c0c0c0 -"];
 
-/// Whether some of these calls is answered `broken`.
+const UNION: [&str; 3] = [
+    "union . c0:61:000102030405060708090a0b0c0d0e0f",
+    "union .",
+    "union 000102030405060708090a0b0c0d0e0f 93c0:61:000102030405060708090a0b0c0d0e0f c0c0:-:000102030405060708090a0b0c0d0e0f",
+];
+
+/// Whether some of these calls is answered `broken`. There are eleven slices of which one in turn is too short in every sixteenth call.
 fn found(fault: Fault, calls: [&str; 3]) -> bool {
     FAULT.set(fault);
     let mut host = Host::default();
-    (0..100).any(|i| host.answer(calls[i % 3]).starts_with("broken"))
+    (0..16 * 11).any(|i| host.answer(calls[i % 3]).starts_with("broken"))
 }
 
 #[test]
@@ -237,10 +371,55 @@ fn each_fault_of_insert_is_found() {
     }
 }
 
+/// Those that end the run where what is lent ends at the end of pages. The last four show nowhere else.
+const PAST: [Fault; 6] = [
+    Fault::WritesPastTheOutput,
+    Fault::WritesPastATable,
+    Fault::ReadsPastTheInput,
+    Fault::WritesTheInput,
+    Fault::ReadsPastTheRoom,
+    Fault::ReadsPastATable,
+];
+
+/// In a process of its own, since pages are used in all of it and a fault may end it.
+#[test]
+#[ignore = "the next test runs it"]
+fn calls_on_pages() {
+    crate::use_pages();
+    let name = std::env::var("FAULT").expect("the name of a fault");
+    let named = |fault: &Fault| format!("{fault:?}") == name;
+    let fault = FAULTS.into_iter().chain(PAST).find(named).unwrap_or(Fault::None);
+    assert_eq!(found(fault, READ), fault != Fault::None);
+}
+
+#[test]
+fn a_call_that_goes_past_its_pages_ends_the_run() {
+    let on_pages = |fault: Fault| {
+        let mut command = Command::new(std::env::current_exe().expect("this program"));
+        command.args(["--exact", "faults::calls_on_pages", "--ignored"]).env("FAULT", format!("{fault:?}"));
+        command.stdout(Stdio::null()).stderr(Stdio::null()).status().expect("it starts")
+    };
+    for fault in PAST {
+        assert_eq!(on_pages(fault).signal(), Some(11), "{fault:?}");
+    }
+    for fault in FAULTS.into_iter().filter(|fault| !PAST.contains(fault)).chain([Fault::None]) {
+        assert!(on_pages(fault).success(), "{fault:?}");
+    }
+}
+
+#[test]
+fn each_fault_of_union_is_found() {
+    let more = MORE.into_iter().filter(|fault| *fault != Fault::WritesThoughFound);
+    for fault in FAULTS.into_iter().chain(more).chain(OF_ALL) {
+        assert!(found(fault, UNION), "{fault:?}");
+    }
+}
+
 #[test]
 fn no_fault_is_found_where_there_is_none() {
     assert!(!found(Fault::None, READ));
     assert!(!found(Fault::None, INSERT));
+    assert!(!found(Fault::None, UNION));
     let mut host = Host::default();
     assert_eq!(host.answer("read 93c0c0c0"), "ok 93c0c0c0");
     assert_eq!(host.answer("read -"), "refused 18 at 0");
@@ -254,6 +433,8 @@ fn no_fault_is_found_where_there_is_none() {
     assert_eq!(host.answer("insert 93c0c0c0 61"), "ok entered 0 93c0c0c0");
     assert_eq!(host.answer("insert - 61"), "refused 18 at 0");
     assert_eq!(host.answer("project c0 . . ."), "ok 0 -");
+    assert_eq!(host.answer("union ."), "refused 18 at 0");
+    assert_eq!(host.answer(UNION[2]), "ok 93c0c0c0");
 }
 
 #[test]
@@ -307,6 +488,16 @@ fn malformed_lines_are_unknown() {
         "project c0 . 1:00 .",
         "project c0 . . 92c0",
         "project c0 . . .,",
+        "union",
+        "union -",
+        "union . ",
+        "union . c0",
+        "union . c0:61",
+        "union . c0:61:00",
+        "union . c0:61:000102030405060708090a0b0c0d0e0f:",
+        "union . .:61:000102030405060708090a0b0c0d0e0f",
+        "union . c0:.:000102030405060708090a0b0c0d0e0f",
+        "union c0:61:000102030405060708090a0b0c0d0e0f",
     ];
     for line in lines {
         assert_eq!(host.answer(line), "unknown", "{line}");
@@ -317,6 +508,8 @@ fn malformed_lines_are_unknown() {
         "select - 92c092d10000c400",
         "select c0 93c0c0c0",
         "project c0 92c0c0 1:00000000000000ff .,92c0c0",
+        "union .",
+        "union . -:-:000102030405060708090a0b0c0d0e0f",
         "select c0 dc0002c0dd00000003d000c600000001ffc3",
     ];
     for line in good {

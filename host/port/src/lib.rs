@@ -3,14 +3,17 @@
 
 #[cfg(test)]
 mod faults;
+mod given;
 mod lent;
 mod operations;
+mod pages;
 #[cfg(feature = "program")]
 mod program;
 mod range;
 mod words;
 
 pub use operations::OPERATIONS;
+pub use pages::use_pages;
 
 use operations::Host;
 use std::cell::RefCell;

@@ -1,13 +1,14 @@
 //! The calls of the line protocol, each made of the port's entry point.
 
+use crate::given::{bytes, ids, Given};
 use crate::lent::{byte, word, Lent};
 use crate::range::{range, Range};
-use crate::words::{bytes, filter, hex, id, ids, list, room, Room};
+use crate::words::{self, filter, hex, id, list, room, Room};
 use manifest::c::{self, Answer, Merge};
-use manifest::ENCODED;
+use manifest::{ENCODED, SOURCES};
 
 /// The operations that the port has an entry point for; every other call is `unknown`.
-pub const OPERATIONS: [&str; 9] = [
+pub const OPERATIONS: [&str; 10] = [
     "read",
     "lookup",
     "select",
@@ -17,6 +18,7 @@ pub const OPERATIONS: [&str; 9] = [
     "project",
     "owned",
     "clone",
+    "union",
 ];
 
 /// Words of the working tables for one manifest: segments, views, runs, borrows, ids.
@@ -30,6 +32,15 @@ const PLACES: usize = 520;
 
 /// Words of the list of ids in use.
 pub const USED: usize = 512 * 2;
+
+/// The longest path.
+const PATH: usize = 64;
+
+/// Words behind a union's fresh UUIDs: for twice as many borrows as a manifest may have.
+pub const FRESH: usize = 32 * 2;
+
+/// Words of a union's working memory for eight sources: prefixes, a source's own ids, groups of borrows, id sets.
+pub const UNITED: [usize; 4] = [SOURCES * 64 * 2, 512 * 2, SOURCES * (32 + 1) * 6, SOURCES * (512 + 512) * 2];
 
 /// What a projection is asked for: flags and a mask, the global range, the own ranges, over these bytes.
 #[derive(Default)]
@@ -63,7 +74,7 @@ impl Wanted {
 
     /// A RANGE word, its bytes behind those so far.
     fn range(&mut self, word: &str) -> Option<Range> {
-        let bytes = bytes(word)?;
+        let bytes = words::bytes(word)?;
         let mut row = range(&bytes)?;
         for place in [1, 4] {
             if row[place - 1] != 0 {
@@ -72,6 +83,33 @@ impl Wanted {
         }
         self.args.extend(bytes);
         Some(row)
+    }
+}
+
+/// The sources of a union: manifests, paths and checkpoints, each one after the other, and where each of the first two ends.
+#[derive(Default)]
+struct Sources {
+    manifests: Vec<u8>,
+    ends: Vec<u64>,
+    paths: Vec<u8>,
+    path_ends: Vec<u64>,
+    checkpoints: Vec<u64>,
+}
+
+impl Sources {
+    /// The words of a call.
+    fn of(words: &[&str]) -> Option<Sources> {
+        let mut sources = Sources::default();
+        for word in words {
+            let parts: Vec<&str> = word.split(':').collect();
+            let [manifest, path, checkpoint] = parts[..] else { return None };
+            sources.manifests.extend(words::bytes(manifest)?);
+            sources.ends.push(sources.manifests.len() as u64);
+            sources.paths.extend(words::bytes(path)?);
+            sources.path_ends.push(sources.paths.len() as u64);
+            sources.checkpoints.extend(id(checkpoint)?);
+        }
+        Some(sources)
     }
 }
 
@@ -94,6 +132,13 @@ type Rows = [Slice<u64>; 5];
 struct Results {
     rows: Rows,
     pool: Slice<u8>,
+}
+
+/// A union's working memory: tables for all sources, the list of fresh UUIDs, and the four of [`UNITED`].
+struct All {
+    sources: Results,
+    fresh: Slice<u64>,
+    united: [Slice<u64>; 4],
 }
 
 /// An entry point on its first arguments, the working tables, and its last arguments.
@@ -123,6 +168,11 @@ pub struct Host {
     /// The bytes of a projection's arguments, and of the manifest behind them.
     behind: Lent<u8>,
     used: Lent<u64>,
+    /// For eight manifests at a time, and the paths' bytes.
+    all: [Lent<u64>; 5],
+    all_pool: Lent<u8>,
+    fresh: Lent<u64>,
+    united: [Lent<u64>; 4],
     out: Lent<u8>,
     ids: Lent<u64>,
     answered: u64,
@@ -141,6 +191,10 @@ impl Default for Host {
             both_pool: Lent::new(2 * POOL, byte),
             behind: Lent::new(POOL, byte),
             used: Lent::new(USED, word),
+            all: ROWS.map(|count| Lent::new(SOURCES * count, word)),
+            all_pool: Lent::new(SOURCES * (POOL + PATH), byte),
+            fresh: Lent::new(FRESH, word),
+            united: UNITED.map(|count| Lent::new(count, word)),
             out: Lent::new(ENCODED, byte),
             ids: Lent::new(2 * PLACES + 1, word),
             answered: 0,
@@ -168,30 +222,36 @@ impl Host {
     /// `None` for a line that is no call.
     fn call(&mut self, line: &str) -> Option<Told> {
         let (room, call) = room(line)?;
+        let given = Given::of(&room);
+        let room = given.array();
         let words: Vec<&str> = call.split(' ').collect();
         Some(match words[..] {
-            ["read", manifest] => self.read(&bytes(manifest)?, &room),
+            ["read", manifest] => self.read(&bytes(manifest)?, room),
             ["lookup", manifest, prefix] => self.lookup(&bytes(manifest)?, &bytes(prefix)?),
             ["select", manifest, wanted] => {
                 let wanted = bytes(wanted)?;
-                let bounds = range(&wanted)?;
-                self.select(&bytes(manifest)?, &wanted, &bounds)
+                let bounds = Given::of(&range(&wanted)?);
+                self.select(&bytes(manifest)?, &wanted, bounds.array())
             }
-            ["insert", manifest, prefix] => self.insert(&bytes(manifest)?, &bytes(prefix)?, &room),
+            ["insert", manifest, prefix] => self.insert(&bytes(manifest)?, &bytes(prefix)?, room),
             ["merge_from_writer", writer, compactor] => {
-                self.merge(c::manifest_merge_from_writer, &bytes(writer)?, &bytes(compactor)?, &room)
+                self.merge(c::manifest_merge_from_writer, &bytes(writer)?, &bytes(compactor)?, room)
             }
             ["merge_from_compactor", writer, compactor] => {
-                self.merge(c::manifest_merge_from_compactor, &bytes(writer)?, &bytes(compactor)?, &room)
+                self.merge(c::manifest_merge_from_compactor, &bytes(writer)?, &bytes(compactor)?, room)
             }
-            ["owned", manifest] => self.owned(&bytes(manifest)?, &room),
+            ["owned", manifest] => self.owned(&bytes(manifest)?, room),
             ["clone", manifest, path, checkpoint, fresh] => {
-                let (path, checkpoint, fresh) = (bytes(path)?, id(checkpoint)?, ids(fresh)?);
-                self.cloned(&bytes(manifest)?, &path, &checkpoint, &fresh, &room)
+                let (path, checkpoint, fresh) = (bytes(path)?, Given::of(&id(checkpoint)?), ids(fresh)?);
+                self.cloned(&bytes(manifest)?, &path, checkpoint.array(), &fresh, room)
             }
             ["project", manifest, global, kept, own] => {
                 let wanted = Wanted::of(global, kept, own)?;
-                self.project(&bytes(manifest)?, &wanted, &room)
+                self.project(&bytes(manifest)?, &wanted, room)
+            }
+            ["union", fresh, ref sources @ ..] => {
+                let (fresh, sources) = (ids(fresh)?, Sources::of(sources)?);
+                self.union(&fresh, &sources, room)
             }
             _ => return None,
         })
@@ -428,7 +488,8 @@ impl Host {
     }
 
     fn project(&mut self, manifest: &[u8], wanted: &Wanted, room: &Room) -> Told {
-        let (s, a, own) = (manifest, &wanted.args, &wanted.own);
+        let (s, a, own) = (manifest, Given::of(&wanted.args), Given::of(&wanted.own));
+        let (asked, global) = (Given::of(&wanted.asked), Given::of(&wanted.global));
         let call = |to: &Results, behind: &Slice<u8>, used: &Slice<u64>, rows: &Rows, out: &Slice<u8>| {
             let [segments, views, runs, borrows, ids] = &to.rows;
             let pool = &to.pool;
@@ -439,8 +500,8 @@ impl Host {
                     s.len(),
                     a.as_ptr(),
                     a.len(),
-                    &wanted.asked,
-                    &wanted.global,
+                    asked.array(),
+                    global.array(),
                     own.as_ptr(),
                     own.len(),
                     room
@@ -472,7 +533,8 @@ impl Host {
         // The pool that holds the manifest has room for the arguments before it.
         self.behind = Lent::new(POOL + a.len(), byte);
         let to = self.results();
-        let (behind, used) = (Slice::of(self.behind.filled(POOL + a.len())), Slice::of(self.used.filled(USED)));
+        let (behind, used) =
+            (Slice::of(self.behind.filled(POOL + a.len())), Slice::of(self.used.filled(USED)));
         let (answer, result) =
             self.written(s.len(), |answer| answer.second, |rows, out| call(&to, &behind, &used, rows, out))?;
         if self.probes() {
@@ -485,6 +547,103 @@ impl Host {
         }
         match (answer.number, answer.third) {
             (0, 0) => Ok(format!("ok {} {}", answer.first, hex(&result))),
+            _ => refusal(answer),
+        }
+    }
+
+    fn union(&mut self, fresh: &[u64], given: &Sources, room: &Room) -> Told {
+        let (s, ends) = (Given::of(&given.manifests), Given::of(&given.ends));
+        let (paths, path_ends) = (Given::of(&given.paths), Given::of(&given.path_ends));
+        let checkpoints = Given::of(&given.checkpoints);
+        let call = |all: &All, to: &Results, rows: &Rows, out: &Slice<u8>| {
+            let [all_segments, all_views, all_runs, all_borrows, all_ids] = &all.sources.rows;
+            let all_pool = &all.sources.pool;
+            let lent = &all.fresh;
+            let [prefixes, owned, groups, sets] = &all.united;
+            let [segments, views, runs, borrows, ids] = &to.rows;
+            let pool = &to.pool;
+            call!(
+                c::manifest_union,
+                (
+                    s.as_ptr(),
+                    s.len(),
+                    ends.as_ptr(),
+                    ends.len(),
+                    paths.as_ptr(),
+                    paths.len(),
+                    path_ends.as_ptr(),
+                    path_ends.len(),
+                    checkpoints.as_ptr(),
+                    checkpoints.len(),
+                    fresh.as_ptr(),
+                    fresh.len(),
+                    room
+                ),
+                rows,
+                (
+                    all_segments.at,
+                    all_segments.len,
+                    all_views.at,
+                    all_views.len,
+                    all_runs.at,
+                    all_runs.len,
+                    all_borrows.at,
+                    all_borrows.len,
+                    all_ids.at,
+                    all_ids.len,
+                    all_pool.at,
+                    all_pool.len,
+                    lent.at,
+                    lent.len,
+                    prefixes.at,
+                    prefixes.len,
+                    owned.at,
+                    owned.len,
+                    groups.at,
+                    groups.len,
+                    sets.at,
+                    sets.len,
+                    segments.at,
+                    segments.len,
+                    views.at,
+                    views.len,
+                    runs.at,
+                    runs.len,
+                    borrows.at,
+                    borrows.len,
+                    ids.at,
+                    ids.len,
+                    pool.at,
+                    pool.len,
+                    out.at,
+                    out.len
+                )
+            )
+        };
+        // The list holds those given and as many again as a manifest may have borrows.
+        self.fresh = Lent::new(fresh.len() + FRESH, word);
+        let (all, to) = (self.all(paths.len()), self.results());
+        let (answer, result) =
+            self.written(s.len(), |answer| answer.first, |rows, out| call(&all, &to, rows, out))?;
+        if self.probes() {
+            let short = self.short_results();
+            let (rows, out) = (self.rows(), Slice::of(self.out.filled(ENCODED)));
+            let told = call(&all, &short, &rows, &out);
+            require(self.fits(answer, told), "no refusal 4 for a result table that is too short")?;
+            let told = call(&self.short_all(), &to, &rows, &out);
+            require(self.fits(answer, told), "no refusal 4 for a table of all sources that is too short")?;
+            require(self.out.kept_from(0), "a refused call changed the output")?;
+            self.guarded()?;
+            // 4 for the output comes before 16.
+            if answer.number == 16 {
+                let all = self.all(paths.len());
+                let (none, _) =
+                    self.into(0, |answer| answer.first, |rows, out| call(&all, &to, rows, out))?;
+                require(none == NO_ROOM, "no refusal 4 for an output of no byte")?;
+            }
+        }
+        match (answer.number, answer.second, answer.third) {
+            (0, 0, 0) => Ok(format!("ok {}", hex(&result))),
             _ => refusal(answer),
         }
     }
@@ -567,9 +726,7 @@ impl Host {
     /// One of them a cell too short.
     fn short_results(&mut self) -> Results {
         let short = (self.answered / 16 % 6) as usize;
-        let cells = self.pool.as_left();
-        let count = cells.len() - usize::from(short == 5);
-        let pool = Slice::of(&mut cells[..count]);
+        let pool = Slice::of(self.pool.as_left_or_short(short == 5));
         Results { rows: shorten(&mut self.results, short), pool }
     }
 
@@ -583,19 +740,40 @@ impl Host {
     /// One of them, or the pool of the list, a cell too short.
     fn short_both(&mut self) -> (Results, Slice<u8>) {
         let short = (self.answered / 16 % 7) as usize;
-        let cells = self.both_pool.as_left();
-        let count = cells.len() - usize::from(short == 5);
-        let held = Slice::of(&mut cells[..count]);
-        let cells = self.pool.as_left();
-        let count = cells.len() - usize::from(short == 6);
-        let pool = Slice::of(&mut cells[..count]);
+        let held = Slice::of(self.both_pool.as_left_or_short(short == 5));
+        let pool = Slice::of(self.pool.as_left_or_short(short == 6));
         (Results { rows: shorten(&mut self.both, short), pool: held }, pool)
     }
 
+    /// Working memory for the sources of a union, and so many bytes of paths. More than eight paths of 64 bytes are refused first.
+    fn all(&mut self, paths: usize) -> All {
+        let fresh = self.fresh();
+        let pool = self.all_pool.filled(SOURCES * POOL + paths.min(SOURCES * PATH));
+        let sources = Results {
+            rows: lend(&mut self.all, ROWS.map(|count| SOURCES * count), fresh),
+            pool: Slice::of(pool),
+        };
+        let united = lend(&mut self.united, UNITED, fresh);
+        All { sources, fresh: Slice::of(self.fresh.as_left()), united }
+    }
+
+    /// One of them a cell too short.
+    fn short_all(&mut self) -> All {
+        let short = (self.answered / 16 % 11) as usize;
+        let pool = Slice::of(self.all_pool.as_left_or_short(short == 5));
+        let sources = Results { rows: shorten(&mut self.all, short), pool };
+        let fresh = Slice::of(self.fresh.as_left_or_short(short == 6));
+        All { sources, fresh, united: shorten(&mut self.united, short.wrapping_sub(7)) }
+    }
+
     fn guarded(&self) -> Result<(), Broken> {
-        let mut tables = self.rows.iter().chain(&self.results).chain(&self.both);
-        let pools = self.pool.guarded() && self.both_pool.guarded() && self.behind.guarded();
-        let kept = tables.all(Lent::guarded) && pools && self.used.guarded();
+        let one = self.rows.iter().chain(&self.results);
+        let mut tables = one.chain(&self.both).chain(&self.all).chain(&self.united);
+        let pools = self.pool.guarded()
+            && self.both_pool.guarded()
+            && self.behind.guarded()
+            && self.all_pool.guarded();
+        let kept = tables.all(Lent::guarded) && pools && self.used.guarded() && self.fresh.guarded();
         require(kept, "something was written beside the working tables")
     }
 
@@ -629,7 +807,7 @@ fn owned_call(manifest: &[u8], rows: &Rows, out: &Slice<u64>) -> Answer {
 }
 
 /// The tables, filled with the pattern or as the last call left them.
-fn lend(tables: &mut [Lent<u64>; 5], counts: [usize; 5], fresh: bool) -> Rows {
+fn lend<const N: usize>(tables: &mut [Lent<u64>; N], counts: [usize; N], fresh: bool) -> [Slice<u64>; N] {
     let mut counts = counts.into_iter();
     tables.each_mut().map(|table| {
         let count = counts.next().unwrap_or(0);
@@ -638,13 +816,9 @@ fn lend(tables: &mut [Lent<u64>; 5], counts: [usize; 5], fresh: bool) -> Rows {
 }
 
 /// The tables as the last call left them, this one a word too short.
-fn shorten(tables: &mut [Lent<u64>; 5], short: usize) -> Rows {
+fn shorten<const N: usize>(tables: &mut [Lent<u64>; N], short: usize) -> [Slice<u64>; N] {
     let mut places = 0..;
-    tables.each_mut().map(|table| {
-        let cells = table.as_left();
-        let count = cells.len() - usize::from(places.next() == Some(short));
-        Slice::of(&mut cells[..count])
-    })
+    tables.each_mut().map(|table| Slice::of(table.as_left_or_short(places.next() == Some(short))))
 }
 
 const NO_ROOM: Answer = Answer { number: 4, first: 0, second: 0, third: 0 };

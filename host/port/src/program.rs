@@ -1,11 +1,12 @@
 //! The program `host`: one call a line on standard input, one answer a line on standard output.
 
-use crate::{answer, OPERATIONS};
+use crate::{answer, use_pages, OPERATIONS};
 use std::io::{self, BufRead, BufReader, Write};
 use std::os::raw::{c_char, c_int};
 use std::panic;
 
 const USAGE: &str = "usage: host               answers the calls on standard input
+       host --pages       the same, and a call that reads or writes past what it was lent ends the program
        host --operations  names the operations that the port has";
 
 /// C's `main`, and not Rust's, whose start the emulator on Arm does not survive.
@@ -15,6 +16,10 @@ pub extern "C" fn main(_: c_int, _: *const *const c_char) -> c_int {
     let words: Vec<String> = std::env::args().skip(1).collect();
     let done = match words.iter().map(String::as_str).collect::<Vec<_>>()[..] {
         [] => serve(),
+        ["--pages"] => {
+            use_pages();
+            serve()
+        }
         ["--operations"] => writeln!(io::stdout(), "{}", OPERATIONS.join("\n")),
         _ => {
             eprintln!("{USAGE}");
