@@ -1,17 +1,15 @@
 -- A lawful manifest without its borrows keeps L1, and what the clone fills. Assumes nothing.
-use Prim.Native.Nat.{ℕ, _+_, _*_, _/_, _≤_}
-use mathlib.Core.Path.{_≡_, refl, sym, ap, _∙_}
-use mathlib.Core.Bool.{Bool, true, false, _&&_}
-use mathlib.Core.List.{List, [], _∷_, _++_}
+use Prim.Native.Nat.{ℕ, _+_, _/_}
+use mathlib.Core.Path.{_≡_, refl, ap, _∙_}
+use mathlib.Core.Bool.{true, _&&_}
+use mathlib.Core.List.{List, [], _∷_}
 use native.Mathlib.Omega.{arith}
 use lib.Dec.{leb}
 use lib.ListN.{length}
 use borrow.Author.Tests.{le-leb}
-use Rattle.keys.specs.Pick.{pick}
 use Rattle.keys.proofs.Says.{true-says}
 use Rattle.tables.specs.Window.{heldOf}
 use Rattle.tables.proofs.Holds.{pick-same}
-use Rattle.ids.specs.declared.SstId.{SstId}
 use Rattle.ids.specs.declared.Uuid.{Uuid}
 use Rattle.records.specs.Model.{Borrow, Manifest}
 use Rattle.records.specs.Fill.{plus, sum, fits, borrowFill, manifestFill}
@@ -26,14 +24,14 @@ use Rattle.measure.specs.Measure.{l1Of, measuredOf}
 use Rattle.measure.specs.Walk.{addOf}
 use Rattle.measure.specs.declared.Measured.{Measured}
 use Rattle.measure.specs.declared.Measured.the-variants.{Broken, Fills}
-use Rattle.measure.proofs.Fits.{Under, under, says-fits}
+use Rattle.measure.proofs.Fits.{under, says-fits}
 use Rattle.lawful.specs.Judge.{judgedOf}
 use Rattle.lawful.specs.declared.Judged.the-variants.{Lawful}
 use Rattle.borrows.specs.Owned.{ownedOf}
 use Rattle.borrows.specs.Clone.{renewedAll, clonedBorrows, clonedOf, freshAt, ofParent}
 use Rattle.borrows.specs.Bare.{bareOf, bareRow, lentFill}
 use Rattle.borrows.proofs.Poolless.{poolless, owned-poolless}
-use Rattle.borrows.proofs.Lawfully.{Keeps, keeps, both, Within, within-parts, parts-within}
+use Rattle.borrows.proofs.Lawfully.{keeps, both, within-parts, parts-within}
 
 pub fits-first : (a b most : Fill) → fits (plus a b) most ≡ true → fits a most ≡ true
 fits-first a b most h =

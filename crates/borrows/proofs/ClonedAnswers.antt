@@ -1,5 +1,5 @@
 -- Which answer the clone gives, by its tests. Assumes nothing.
-use Prim.Native.Nat.{ℕ, _+_, _/_, _≤_, _<_}
+use Prim.Native.Nat.{ℕ, _/_, _≤_, _<_}
 use mathlib.Core.Path.{_≡_, refl, sym, ap, _∙_}
 use mathlib.Core.Bool.{Bool, true, false, not}
 use mathlib.Core.List.{List, []}
@@ -26,9 +26,9 @@ use Rattle.measure.specs.declared.Measured.the-variants.{Broken, Fills}
 use Rattle.lawful.specs.Judge.{judgedOf}
 use Rattle.lawful.specs.declared.Judged.{Judged}
 use Rattle.lawful.specs.declared.Judged.the-variants.{Lawful, Breaks}
-use Rattle.copy.specs.Copy.{roomOf, noRoom, laidOver}
+use Rattle.copy.specs.Copy.{roomOf, noRoom}
 use Rattle.borrows.specs.Owned.{ownedOf}
-use Rattle.borrows.specs.Clone.{uuidsOf, clonedBorrows, clonedOf, refuses15, refuses16}
+use Rattle.borrows.specs.Clone.{uuidsOf, clonedBorrows, clonedOf, refuses15}
 use Rattle.borrows.specs.Bare.{lentFill}
 use Rattle.borrows.specs.Answer.{ClonedOutcome, refused, clonedGiven, clonedIn}
 use Rattle.borrows.specs.declared.ClonedAs.the-variants.{Done}

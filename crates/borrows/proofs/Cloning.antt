@@ -1,5 +1,5 @@
 -- The clone laid at the front of the tables: all but its borrows, then its borrows. Assumes nothing.
-use Prim.Native.Nat.{ℕ, suc, _+_, _*_, _/_, _≤_}
+use Prim.Native.Nat.{ℕ, suc, _+_, _*_, _≤_}
 use mathlib.Core.Path.{_≡_, refl, sym, ap, _∙_}
 use mathlib.Core.Bool.{true}
 use mathlib.Core.List.{List, [], _∷_, _++_, append-assoc, append-nil}
@@ -10,7 +10,7 @@ use Rattle.tables.specs.Layout.{write, over, joined}
 use Rattle.tables.proofs.Writes.{write-front, then}
 use Rattle.ids.specs.declared.Uuid.{Uuid}
 use Rattle.records.specs.Model.{Borrow, Manifest}
-use Rattle.records.specs.Fill.{empty, plus, sum, fits, keyFill, nameKeys, treeFill, segmentFill, borrowFill, manifestFill}
+use Rattle.records.specs.Fill.{plus, sum, fits, nameKeys, borrowFill, manifestFill}
 use Rattle.records.specs.Decode.{Lent}
 use Rattle.records.specs.Layout.{run, treeBytes, segmentBytes, borrowsLaid, borrowIds, borrowPath, pastName, manifestRow, layout}
 use Rattle.records.specs.declared.Fill.{Fill}
@@ -20,7 +20,6 @@ use Rattle.records.proofs.Laid.{borrows, ids, pool}
 use Rattle.records.proofs.Stair.{layout-long}
 use Rattle.measure.proofs.Fits.{Under, under}
 use Rattle.copy.specs.Copy.{roomOf}
-use Rattle.borrows.specs.Owned.{ownedOf}
 use Rattle.borrows.specs.Clone.{renewedAll, clonedBorrows, clonedOf}
 use Rattle.borrows.specs.Bare.{bareOf}
 use Rattle.borrows.proofs.Baring.{fits-first, clone-over-bare}

@@ -1,15 +1,15 @@
 -- What a lawful manifest keeps, and how many ids it owns at most. Assumes nothing.
-use Prim.Native.Nat.{ℕ, _+_, _^_, _≤_, _<_}
-use mathlib.Core.Path.{_≡_, refl, sym, ap, _∙_}
+use Prim.Native.Nat.{ℕ, _≤_}
+use mathlib.Core.Path.{_≡_, refl, ap}
 use mathlib.Core.Bool.{Bool, true, false, not, _&&_}
-use mathlib.Core.List.{List, [], _∷_, _++_}
+use mathlib.Core.List.{List, [], _∷_}
 use native.Mathlib.Omega.{arith}
 use lib.ListN.{length, length-append}
 use Rattle.keys.specs.Pick.{pick}
 use Rattle.tables.specs.Layout.{joined}
 use Rattle.ids.specs.declared.SstId.{SstId}
 use Rattle.records.specs.Model.{View, Segment, Borrow, Manifest, segmentTrees}
-use Rattle.records.specs.Fill.{fits, manifestFill, sum, treeFill, segmentFill, keyFill, nameKeys, viewKeys, borrowFill}
+use Rattle.records.specs.Fill.{fits, manifestFill, nameKeys, viewKeys}
 use Rattle.records.specs.Decode.{Lent, manifestIn}
 use Rattle.records.specs.declared.Fill.{Fill}
 use Rattle.records.specs.declared.Limits.{Limits}
@@ -19,7 +19,7 @@ use Rattle.measure.specs.Tests.{allOf}
 use Rattle.measure.specs.Within.{treeViews, allViews, short, within}
 use Rattle.measure.specs.Placed.{placed}
 use Rattle.measure.specs.Measure.{l1Of}
-use Rattle.measure.proofs.Fits.{Under, under}
+use Rattle.measure.proofs.Fits.{under}
 use Rattle.lawful.specs.Law.{l2Of, l3Of, l4Of, l5Of}
 use Rattle.lawful.specs.Judge.{judgedOf}
 use Rattle.lawful.specs.declared.Judged.{Judged}

@@ -5,9 +5,8 @@ use mathlib.Core.Bool.{Bool, true, false, not, _&&_}
 use mathlib.Core.List.{List}
 use native.Mathlib.Omega.{arith}
 use lib.ListN.{length}
-use Rattle.tables.specs.Layout.{write, over}
+use Rattle.tables.specs.Layout.{over}
 use Rattle.tables.proofs.Writes.{write-front}
-use Rattle.ids.specs.declared.SstId.{SstId}
 use Rattle.records.specs.Fill.{ids, fits}
 use Rattle.records.specs.Decode.{Lent, manifestIn}
 use Rattle.records.specs.Layout.{idsLaid}
@@ -15,7 +14,7 @@ use Rattle.records.specs.declared.Fill.{Fill}
 use Rattle.records.specs.declared.Limits.{Limits}
 use Rattle.records.specs.declared.ManifestRow.{ManifestRow}
 use Rattle.records.specs.declared.Refusal.the-variants.{Unlawful, NoRoom}
-use Rattle.measure.proofs.Fits.{Under, under}
+use Rattle.measure.proofs.Fits.{under}
 use Rattle.lawful.specs.Judge.{judgedOf}
 use Rattle.lawful.specs.declared.Judged.{Judged}
 use Rattle.lawful.specs.declared.Judged.the-variants.{Lawful, Breaks}

@@ -1,8 +1,8 @@
 -- Which ids of views are owned, view by view and tree by tree. Assumes nothing.
-use Prim.Native.Nat.{ℕ, zero, suc, _+_, _/_, _^_, _≤_, _<_}
+use Prim.Native.Nat.{ℕ, suc, _+_, _/_, _^_, _<_}
 use mathlib.Core.Path.{_≡_, refl, sym, ap, _∙_}
 use mathlib.Core.Bool.{Bool, true, false, not, _||_}
-use mathlib.Core.List.{List, [], _∷_, _++_, append-assoc}
+use mathlib.Core.List.{List, [], _∷_, _++_}
 use native.Mathlib.Omega.{arith}
 use native.Mathlib.Nat.{add-zero}
 use lib.Dec.{ltb}
@@ -21,7 +21,7 @@ use Rattle.records.specs.Decode.{viewIn, viewsIn, runIn, runsIn, segmentIn, seg
 use Rattle.records.specs.declared.ViewRow.{ViewRow}
 use Rattle.measure.specs.Within.{runViews, treeViews}
 use Rattle.copy.proofs.Manifest.{borrows-count}
-use Rattle.borrows.specs.Owned.{firstNaming, isBorrowed, unborrowed, idsUsed, ownedBy}
+use Rattle.borrows.specs.Owned.{firstNaming, isBorrowed, ownedBy}
 use Rattle.borrows.specs.Places.{putAt, putFrom}
 use Rattle.borrows.proofs.Putting.{put-append}
 

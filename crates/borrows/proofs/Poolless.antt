@@ -1,17 +1,16 @@
 -- Which ids are owned does not hang on the pool. Assumes nothing.
 use Prim.Native.Nat.{ℕ, zero, suc, _+_, _/_}
 use mathlib.Core.Path.{_≡_, refl, sym, ap, ap₂, _∙_}
-use mathlib.Core.Bool.{Bool, _||_, or-assoc}
+use mathlib.Core.Bool.{_||_, or-assoc}
 use mathlib.Core.List.{List, [], _∷_, _++_}
 use lib.ListN.{length}
-use Rattle.keys.specs.Pick.{pick}
 use Rattle.tables.specs.Layout.{upTo, joined}
 use Rattle.tables.specs.Window.{heldOf}
 use Rattle.tables.specs.declared.Window.{Window}
 use Rattle.tables.proofs.Joined.{joined-append}
 use Rattle.ids.specs.Names.{namesOf}
 use Rattle.ids.specs.declared.SstId.{SstId}
-use Rattle.records.specs.Model.{View, Run, Tree, Segment, Borrow, segmentTrees}
+use Rattle.records.specs.Model.{View, Segment, Borrow, segmentTrees}
 use Rattle.records.specs.Row.{viewAt, runAt, segmentAt, borrowAt}
 use Rattle.records.specs.Decode.{Lent, viewIn, viewsIn, runIn, runsIn, treeIn, segmentIn, segmentsIn, borrowIn, borrowsIn, manifestIn}
 use Rattle.records.specs.declared.TreeRow.{TreeRow}

@@ -4,7 +4,7 @@ use mathlib.Core.Path.{_≡_, refl, sym, ap, _∙_}
 use mathlib.Core.Bool.{Bool, true, false, not, _||_, _&&_, or-assoc}
 use mathlib.Core.List.{List, [], _∷_, _++_}
 use native.Mathlib.Omega.{arith}
-use native.Mathlib.Nat.{zero-add, add-suc, suc-add}
+use native.Mathlib.Nat.{zero-add}
 use lib.ListN.{length, getD}
 use Rattle.tables.specs.Layout.{upTo}
 use Rattle.tables.specs.Window.{heldOf}

@@ -1,6 +1,5 @@
 -- What owned ids and clone answer, and what the lent outputs then hold.
 use Prim.Native.Nat.{ℕ, _/_}
-use mathlib.Core.Bool.{Bool}
 use mathlib.Core.List.{List, [], _∷_}
 use lib.Dec.{ltb}
 use lib.ListN.{length}

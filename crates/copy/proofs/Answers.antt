@@ -11,7 +11,7 @@ use Rattle.tables.proofs.Writes.{write-front}
 use Rattle.records.specs.Model.{Manifest}
 use Rattle.records.specs.Fill.{empty, plus, fits, manifestFill}
 use Rattle.records.specs.Decode.{Lent, manifestIn}
-use Rattle.records.specs.Layout.{layout, manifestRow, layoutAt, manifestRowAt}
+use Rattle.records.specs.Layout.{layout, layoutAt, manifestRowAt}
 use Rattle.records.specs.declared.Fill.{Fill}
 use Rattle.records.specs.declared.Limits.{Limits}
 use Rattle.records.specs.declared.ManifestRow.{ManifestRow}

@@ -1,15 +1,14 @@
 -- One law of appending for every table: rows are laid from a cursor on, each where those before it end. Assumes nothing.
 use mathlib.Core.Path.{_≡_, refl, sym, ap, _∙_}
-use mathlib.Core.List.{List, [], _∷_, _++_, append-assoc, append-nil}
-use Prim.Native.Nat.{ℕ, suc, _+_, _*_, _≤_, _<_}
+use mathlib.Core.List.{List, [], _∷_, _++_}
+use Prim.Native.Nat.{ℕ, suc, _+_, _≤_, _<_}
 use native.Mathlib.Omega.{arith}
 use native.Mathlib.Numerals.{add-one}
-use lib.ListN.{length, length-append}
+use lib.ListN.{length}
 use Rattle.tables.specs.Layout.{write, upTo, joined}
 use Rattle.tables.proofs.Writes.{then, write-none, write-length}
 use Rattle.tables.proofs.Joined.{upTo-more}
 use Rattle.records.specs.Fill.{empty, plus, sum}
-use Rattle.records.specs.Layout.{laid}
 use Rattle.records.specs.declared.Fill.{Fill}
 use Rattle.records.proofs.Sums.{plus-empty, plus-assoc, sum-append, sum-more}
 use Rattle.records.proofs.Laid.{Table, at, at-plus, at-empty, Column, column, column-long, column-more, laid-joined}

@@ -1,7 +1,7 @@
 -- Which answer insert gives, by its tests. Assumes nothing.
-use Prim.Native.Nat.{ℕ, _≤_}
+use Prim.Native.Nat.{ℕ}
 use mathlib.Core.Path.{_≡_, refl, sym, ap, _∙_}
-use mathlib.Core.Bool.{Bool, true, false, not, true≢false, _&&_, _||_}
+use mathlib.Core.Bool.{Bool, true, false, not, true≢false, _&&_}
 use mathlib.Core.List.{List}
 use native.Mathlib.Omega.{arith}
 use lib.ListN.{length}
@@ -29,7 +29,7 @@ use Rattle.segments.specs.Prefixes.{prefixes}
 use Rattle.segments.specs.Refuses.{prefixOver}
 use Rattle.segments.specs.Lookup.{indexOf}
 use Rattle.segments.specs.Place.{placeOf, refuses3, conflictOf}
-use Rattle.segments.specs.Insert.{newSegment, withSegments, enteredIn, holdsOf, Entry, found, entered, refused, insertedOf}
+use Rattle.segments.specs.Insert.{holdsOf, Entry, found, entered, refused, insertedOf}
 use Rattle.insert.specs.Insert.{enteredAt, newFill, laidEntry}
 use Rattle.insert.specs.declared.Inserted.{Inserted}
 use Rattle.insert.specs.declared.Inserted.the-variants as lay
@@ -41,7 +41,7 @@ use Rattle.manifest_write.specs.declared.Written.the-variants as write
 use Rattle.manifest_read.specs.Answer.{workRoom}
 use Rattle.encoded.specs.Encoded.{refused as unread, encodedOf, longOf}
 use Rattle.encoded.specs.InTables.{rowsIn}
-use Rattle.encoded.specs.Insert.{Outcome, refusedTo, enteredBy, wrote, enteredTo, insertedIn, insertTo}
+use Rattle.encoded.specs.Insert.{Outcome, refusedTo, wrote, enteredTo, insertedIn, insertTo}
 use Rattle.encoded.specs.declared.InsertedTo.the-variants.{Found, Entered, Refused}
 use Rattle.encoded.specs.declared.Rows.the-variants.{Are}
 

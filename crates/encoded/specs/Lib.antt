@@ -4,3 +4,4 @@ pub mod Read
 pub mod Lookup
 pub mod Select
 pub mod Insert
+pub mod Least

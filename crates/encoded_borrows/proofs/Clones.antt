@@ -1,5 +1,5 @@
 -- Which answer the clone gives, by its tests. Assumes nothing.
-use Prim.Native.Nat.{ℕ, suc, _+_, _/_, _^_, _*_, _≤_, _<_}
+use Prim.Native.Nat.{ℕ, _+_, _/_, _^_, _*_, _≤_, _<_}
 use mathlib.Core.Path.{_≡_, refl, sym, ap, _∙_}
 use mathlib.Core.Bool.{Bool, true, false, not, _&&_, true≢false}
 use mathlib.Core.List.{List}
@@ -27,7 +27,7 @@ use Rattle.lawful.specs.Judge.{judgedOf}
 use Rattle.lawful.specs.declared.Judged.the-variants.{Lawful, Breaks}
 use Rattle.copy.specs.Copy.{roomOf, laidOver}
 use Rattle.borrows.specs.Owned.{ownedOf}
-use Rattle.borrows.specs.Clone.{uuidsOf, clonedBorrows, clonedOf, refuses15, refuses16}
+use Rattle.borrows.specs.Clone.{uuidsOf, clonedOf, refuses15, refuses16}
 use Rattle.borrows.specs.Bare.{lentFill}
 use Rattle.borrows.specs.Answer.{ClonedOutcome, clonedGiven}
 use Rattle.borrows.specs.Answer as laying

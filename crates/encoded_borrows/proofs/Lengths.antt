@@ -1,6 +1,6 @@
 -- Whatever the fresh UUIDs are, the clone has as many bytes. Assumes nothing.
-use Prim.Native.Nat.{ℕ, suc, _+_, _<_}
-use mathlib.Core.Path.{_≡_, refl, ap, _∙_}
+use Prim.Native.Nat.{ℕ, suc, _+_}
+use mathlib.Core.Path.{_≡_, refl, ap}
 use mathlib.Core.List.{List, [], _∷_, _++_, map}
 use native.Mathlib.Omega.{arith}
 use lib.ListN.{length, length-append}
@@ -8,7 +8,7 @@ use Rattle.ids.specs.declared.SstId.{SstId}
 use Rattle.ids.specs.declared.Uuid.{Uuid}
 use Rattle.ids.specs.declared.Final.the-variants.{Some}
 use Rattle.records.specs.Model.{Borrow, Manifest}
-use Rattle.msgpack_put.specs.Write.{uintBytes, intBytes, flagBytes, arrayBytes, binBytes, idPart, groupBytes, concat}
+use Rattle.msgpack_put.specs.Write.{uintBytes, intBytes, flagBytes, arrayBytes, binBytes, idPart, concat}
 use Rattle.msgpack_put.proofs.Sizes.{id-size}
 use Rattle.manifest_write.specs.Bytes.{listBytes, finalBytes, sstIdBytes, treeBytes, segmentsBytes, borrowBytes, nameBytes, manifestBytes}
 use Rattle.manifest_write.proofs.Bounds.{record-total}

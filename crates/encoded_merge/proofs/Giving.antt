@@ -1,7 +1,7 @@
 -- The merged list, written; and the part of the result tables that a room leaves. Assumes nothing.
 use Prim.Native.Nat.{ℕ, _*_, _≤_, _<_}
 use mathlib.Core.Path.{_≡_, refl, sym, ap, _∙_}
-use mathlib.Core.Bool.{Bool, true, false, not, _&&_}
+use mathlib.Core.Bool.{Bool, true, false, not}
 use mathlib.Core.List.{List}
 use native.Mathlib.Omega.{arith}
 use lib.Dec.{ltb}
@@ -14,7 +14,7 @@ use Rattle.tables.specs.Layout.{over, joined}
 use Rattle.tables.specs.declared.Window.{Window}
 use Rattle.tables.proofs.Holds.{holds-front}
 use Rattle.records.specs.Model.{Segment}
-use Rattle.records.specs.Fill.{empty, sum, fits, segmentFill}
+use Rattle.records.specs.Fill.{empty, sum, segmentFill}
 use Rattle.records.specs.Layout.{segmentsLaid, segmentsViewsLaid, segmentsRunsLaid, segmentBytes}
 use Rattle.records.specs.Decode.{segmentsIn}
 use Rattle.records.specs.declared.Fill.{Fill}

@@ -1,5 +1,4 @@
 -- What the inner functions answer. No public promise speaks of it.
-use Prim.Native.Nat.{ℕ}
 use mathlib.Core.List.{List}
 use Rattle.records.specs.Model.{Segment}
 use Rattle.records.specs.declared.Limits.{Limits}

@@ -1,23 +1,21 @@
 -- Arguments that are not over their limit are the same wherever their bytes stand first. Assumes nothing.
 use Prim.Native.Nat.{ℕ, zero, suc, _+_, _-_, _*_, _/_, _≤_, _<_}
-use mathlib.Core.Path.{_≡_, refl, sym, ap, _∙_}
+use mathlib.Core.Path.{_≡_, refl, ap, _∙_}
 use mathlib.Core.Bool.{Bool, true, false, not, _||_}
-use mathlib.Core.List.{List, [], _∷_, _++_}
+use mathlib.Core.List.{List, _++_}
 use native.Mathlib.Omega.{arith}
 use native.Mathlib.Decide.{decLt}
 use borrow.Author.Tests.{leb-true, le-leb, lt-leb}
-use lib.Dec.{leb, ltb}
+use lib.Dec.{ltb}
 use lib.ListN.{length, getD, take, drop, length-append, length-drop}
 use lib.Seq.{length-take-le, getD-take, take-append-le, drop-append-le}
-use Rattle.keys.specs.Pick.{pick}
-use Rattle.keys.specs.Range.{Edges}
 use Rattle.keys.specs.Pool.{partOf, edgeOf, edgesOf, insideOf}
 use Rattle.keys.specs.declared.Bound.{Bound}
 use Rattle.keys.specs.declared.Bound.the-variants.{Unbounded, Included, Excluded}
 use Rattle.keys.specs.declared.Range.{Range}
 use Rattle.tables.specs.Layout.{upTo}
 use Rattle.segments.specs.Refuses.{longOf, boundOver, rangeOver}
-use Rattle.project_ranges.specs.Config.{Config, Asked, Own, table}
+use Rattle.project_ranges.specs.Config.{Asked, table}
 use Rattle.project_ranges.specs.Args.{askedIn, ownRow, ownIn, configIn, globalOver, ownRowOver, someOver, counted, ownOver, configOver}
 use Rattle.project_ranges.specs.declared.Global.{Global}
 use Rattle.project_ranges.specs.declared.Global.the-variants as global

@@ -1,18 +1,16 @@
 -- The projected manifest, written. Assumes nothing.
-use Prim.Native.Nat.{ℕ, _/_, _≤_}
+use Prim.Native.Nat.{ℕ, _≤_}
 use mathlib.Core.Path.{_≡_, refl, sym, ap, _∙_}
 use mathlib.Core.Bool.{Bool, true, false, not, _&&_, _||_}
 use mathlib.Core.List.{List}
 use native.Mathlib.Omega.{arith}
 use borrow.Author.Tests.{le-ltb}
-use lib.Dec.{ltb}
 use lib.ListN.{length}
 use Rattle.keys.specs.Pick.{pick}
 use Rattle.records.specs.Model.{Manifest}
 use Rattle.records.specs.Fill.{fits, manifestFill}
 use Rattle.records.specs.Layout.{layout, manifestRow}
 use Rattle.records.specs.Decode.{Lent, manifestIn}
-use Rattle.records.specs.declared.Fill.{Fill}
 use Rattle.records.specs.declared.Limits.{Limits}
 use Rattle.records.specs.declared.ManifestRow.{ManifestRow}
 use Rattle.records.specs.declared.Refusal.{Refusal}

@@ -1,16 +1,15 @@
 -- Reading behind the arguments: what stands there, and the order of refusals. Assumes nothing.
-use Prim.Native.Nat.{ℕ, _+_, _*_, _/_, _≤_}
+use Prim.Native.Nat.{ℕ, _+_}
 use mathlib.Core.Path.{_≡_, refl, sym, ap, _∙_}
-use mathlib.Core.Bool.{Bool, true, false, not, _||_}
-use mathlib.Core.List.{List, [], _++_}
+use mathlib.Core.Bool.{Bool, true, false}
+use mathlib.Core.List.{List, _++_}
 use native.Mathlib.Omega.{arith}
 use lib.ListN.{length, take, drop}
 use lib.Seq.{take-at}
 use Rattle.keys.specs.Pick.{pick}
 use Rattle.keys.proofs.Says.{true-says}
-use Rattle.tables.specs.Layout.{write}
 use Rattle.records.specs.Model.{Manifest}
-use Rattle.records.specs.Fill.{plus, bytes, fits, manifestFill}
+use Rattle.records.specs.Fill.{plus, bytes, fits}
 use Rattle.records.specs.Layout.{manifestRowAt, layoutAt}
 use Rattle.records.specs.Decode.{Lent, manifestIn}
 use Rattle.records.specs.declared.Fill.{Fill}
@@ -22,7 +21,7 @@ use Rattle.measure.proofs.Fits.{under, says-fits}
 use Rattle.lawful.specs.Judge.{judgedOf}
 use Rattle.lawful.specs.declared.Judged.{Judged}
 use Rattle.lawful.specs.declared.Judged.the-variants.{Lawful, Breaks}
-use Rattle.copy.specs.Copy.{roomOf, laidAt, Outcome as Laid, givenAt, copyAtOf}
+use Rattle.copy.specs.Copy.{roomOf, Outcome as Laid, givenAt, copyAtOf}
 use Rattle.copy.specs.declared.Copied.{Copied}
 use Rattle.copy.specs.declared.Copied.the-variants.{Done, Refused}
 use Rattle.msgpack.specs.Skip.{wholeOf}
@@ -35,7 +34,7 @@ use Rattle.manifest_read.proofs.Answers.{SameLong, rows-over, rows-judged}
 use Rattle.project_ranges.specs.Config.{Config}
 use Rattle.project_ranges.specs.Args.{globalOver, configOver}
 use Rattle.project_ranges.specs.declared.ProjectionConfig.{ProjectionConfig}
-use Rattle.encoded.specs.Encoded.{Encoded, holds, refused as unread, on, byLaw as law, byRecord as record-by, byWhole as whole-by, encodedOf, longOf}
+use Rattle.encoded.specs.Encoded.{Encoded, holds, on, byLaw as law, byRecord as record-by, byWhole as whole-by, encodedOf, longOf}
 use Rattle.standing.proofs.Reading.{readInto, read-is, Accepted, accepted-decode, accepted-judged, read-refused, read-accepted}
 use Rattle.encoded_project.specs.Project.{Outcome, refusedTo, configFor, overGot, overWhole, overIn, projectedTo, shortAny, projectTo}
 use Rattle.encoded_project.specs.Steps.{keptAt, readWith}

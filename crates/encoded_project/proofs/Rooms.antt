@@ -2,14 +2,14 @@
 use Prim.Native.Nat.{ℕ, suc, _+_, _-_, _*_, _/_, _≤_}
 use mathlib.Core.Path.{_≡_, refl, sym, ap, _∙_}
 use mathlib.Core.Bool.{Bool, true, false, not, _&&_, _||_}
-use mathlib.Core.List.{List, []}
+use mathlib.Core.List.{List}
 use native.Mathlib.Omega.{arith}
 use native.Mathlib.Decide.{decLt}
 use borrow.Author.Tests.{ltb-false, lt-ltb, le-ltb, le-leb, lt-leb}
 use lib.Dec.{leb, ltb}
 use lib.ListN.{length}
 use Rattle.keys.specs.Pick.{pick}
-use Rattle.keys.proofs.Says.{says-same, true-says}
+use Rattle.keys.proofs.Says.{says-same}
 use Rattle.keys.specs.declared.Range.{Range}
 use Rattle.tables.specs.Layout.{write}
 use Rattle.tables.proofs.Writes.{write-length}
@@ -19,7 +19,7 @@ use Rattle.records.specs.Decode.{Lent}
 use Rattle.records.specs.declared.Fill.{Fill}
 use Rattle.records.specs.declared.Limits.{Limits}
 use Rattle.measure.specs.Walk.{leftOf}
-use Rattle.measure.proofs.Fits.{Under, says-fits, under, fits-part, fits-left}
+use Rattle.measure.proofs.Fits.{says-fits, under, fits-part, fits-left}
 use Rattle.copy.specs.Copy.{roomOf, noRoom}
 use Rattle.manifest_read.specs.Answer.{workRoom}
 use Rattle.segments.specs.Refuses.{rangeOver}

@@ -11,8 +11,7 @@ use Rattle.records.specs.declared.Refusal.the-variants.{Unlawful, OverLimit}
 use Rattle.lawful.specs.Judge.{judgedOf}
 use Rattle.copy.specs.Copy.{Outcome, givenAt, copyAtOf}
 use Rattle.msgpack.specs.Skip.{wholeOf}
-use Rattle.manifest_values.specs.Read.{manifestAt}
-use Rattle.manifest_read.specs.Answer.{refused, byLaw, byRecord, byWhole}
+use Rattle.manifest_read.specs.Answer.{refused, byLaw, byWhole}
 use Rattle.project_ranges.specs.declared.ProjectionConfig.{ProjectionConfig}
 use Rattle.encoded_project.specs.Project.{overIn}
 

@@ -1,49 +1,41 @@
 -- Sources read one behind the other. Assumes nothing.
-use Prim.Native.Nat.{ℕ, zero, suc, _+_, _-_, _*_, _≤_, _<_}
+use Prim.Native.Nat.{ℕ, zero, suc, _+_, _-_, _≤_, _<_}
 use mathlib.Core.Path.{_≡_, refl, sym, ap, subst, _∙_}
 use mathlib.Core.Bool.{Bool, true, false, _||_}
-use mathlib.Core.List.{List, [], _∷_, _++_}
+use mathlib.Core.List.{List, []}
 use native.Mathlib.Omega.{arith}
 use native.Mathlib.Decide.{decLt}
 use native.Mathlib.Numerals.{add-one}
 use lib.Dec.{leb, ltb}
-use lib.ListN.{length, take, drop, length-take, length-drop}
+use lib.ListN.{length, take, drop, length-take}
 use borrow.Author.Tests.{ltb-false, lt-ltb, le-ltb}
 use Rattle.keys.specs.Pick.{pick}
 use Rattle.keys.specs.Pool.{partOf}
 use Rattle.keys.proofs.Says.{true-says}
 use Rattle.ids.specs.declared.Uuid.{Uuid}
-use Rattle.tables.specs.Layout.{write, upTo}
-use Rattle.tables.proofs.Holds.{Holds}
-use Rattle.tables.proofs.Writes.{write-length}
+use Rattle.tables.specs.Layout.{write}
 use Rattle.records.specs.Model.{Manifest}
 use Rattle.records.specs.Fill.{plus, bytes, fits}
 use Rattle.records.specs.Row.{at}
 use Rattle.records.specs.Layout.{manifestRowAt, layoutAt}
-use Rattle.records.specs.Decode.{Lent, bytesIn, manifestIn}
+use Rattle.records.specs.Decode.{Lent}
 use Rattle.records.specs.declared.Fill.{Fill}
 use Rattle.records.specs.declared.Limits.{Limits}
 use Rattle.records.specs.declared.ManifestRow.{ManifestRow}
 use Rattle.records.specs.declared.Place.{Place}
 use Rattle.records.specs.declared.Refusal.{Refusal}
 use Rattle.measure.proofs.Fits.{Under, says-fits, under}
-use Rattle.lawful.specs.Judge.{judgedOf}
-use Rattle.lawful.specs.declared.Judged.the-variants.{Lawful}
 use Rattle.copy.specs.Copy.{roomOf, laidAt, Outcome as Laid}
 use Rattle.copy.specs.declared.Copied.{Copied}
 use Rattle.copy.specs.declared.Copied.the-variants as copied
-use Rattle.unite_sources.specs.Rows.{sourceAtWord, sourcesIn}
-use Rattle.unite_judge.specs.Judging.{sourceJudged, sourcesJudged}
 use Rattle.manifest_write.specs.Answer.{Outcome}
 use Rattle.manifest_read.specs.Answer.{workRoom, readAtOf}
-use Rattle.manifest_read.proofs.Answers.{SameLong}
 use Rattle.encoded.specs.Encoded.{Encoded, holds, refused, on, encodedOf, longOf}
-use Rattle.standing.proofs.Reading.{readInto, read-is, read-refused, Accepted, accepted-decode, accepted-is, accepted-judged, read-accepted, read-roomy, accepted-stays}
-use Rattle.encoded_union.specs.Union.{startOf, pieceOf, badPiece, someBad, manifestOf, bareOf, sourceOf, sourcesOf, unlessUnread, behind}
-use Rattle.encoded_union.specs.Steps.{placeOf, sourceWords, Step, sourceInto, Gathered}
+use Rattle.standing.proofs.Reading.{readInto, read-is}
+use Rattle.encoded_union.specs.Union.{startOf, pieceOf, badPiece, someBad, unlessUnread, behind}
+use Rattle.encoded_union.specs.Steps.{placeOf, sourceWords, Step, sourceInto}
 use Rattle.encoded_union.specs.declared.Reading.{Reading}
 use Rattle.encoded_union.specs.declared.Reading.the-variants.{Done, Refused}
-use Rattle.encoded_union.proofs.Rows.{holds-written, holds-before, part-front, source-wide, made, row-judged, row-source}
 
 -- ---- cursors
 

@@ -1,11 +1,11 @@
 -- A source's row reads back, and what stands before a written row stands on. Assumes nothing.
-use Prim.Native.Nat.{ℕ, zero, suc, _+_, _-_, _*_, _≤_, _<_}
-use mathlib.Core.Path.{_≡_, refl, sym, ap, _∙_}
-use mathlib.Core.Bool.{Bool, true, false, _&&_}
-use mathlib.Core.List.{List, [], _∷_, _++_, append-assoc}
+use Prim.Native.Nat.{ℕ, _+_, _-_, _≤_}
+use mathlib.Core.Path.{_≡_, refl, ap, _∙_}
+use mathlib.Core.Bool.{true}
+use mathlib.Core.List.{List, _++_, append-assoc}
 use native.Mathlib.Omega.{arith}
 use native.Mathlib.Nat.{add-assoc}
-use lib.IntN.{pos, negsuc}
+use lib.IntN.{negsuc}
 use lib.ListN.{length, take, drop, length-append, length-drop}
 use lib.Seq.{length-take-le, take-add, take-append-add, drop-append-le, take-append-le}
 use borrow.Author.Tests.{le-leb}

@@ -1,12 +1,12 @@
 -- THE READING LOOP: all sources so far stand in the tables and are judged. Assumes nothing.
 use Prim.Native.Nat.{ℕ, zero, suc, _+_, _-_, _*_, _≤_, _<_}
 use mathlib.Core.Path.{_≡_, refl, sym, ap, subst, _∙_}
-use mathlib.Core.Bool.{Bool, true, false}
-use mathlib.Core.List.{List, [], _∷_, _++_}
+use mathlib.Core.Bool.{true, false}
+use mathlib.Core.List.{List}
 use native.Mathlib.Omega.{arith}
 use native.Mathlib.Decide.{decLt}
 use native.Mathlib.Numerals.{add-one}
-use lib.ListN.{length, drop}
+use lib.ListN.{length}
 use Rattle.ids.specs.declared.Uuid.{Uuid}
 use Rattle.tables.specs.Layout.{write, upTo}
 use Rattle.tables.proofs.Holds.{Holds}
@@ -20,20 +20,17 @@ use Rattle.records.specs.declared.Fill.{Fill}
 use Rattle.records.specs.declared.Limits.{Limits}
 use Rattle.records.specs.declared.ManifestRow.{ManifestRow}
 use Rattle.records.specs.declared.Refusal.{Refusal}
-use Rattle.measure.proofs.Fits.{Under, under}
+use Rattle.measure.proofs.Fits.{under}
 use Rattle.lawful.specs.declared.Judged.the-variants.{Lawful}
 use Rattle.copy.specs.Copy.{roomOf, laidAt, Outcome as Laid}
-use Rattle.copy.specs.declared.Copied.{Copied}
 use Rattle.copy.specs.declared.Copied.the-variants as copied
-use Rattle.unite_sources.specs.Source.{Source}
 use Rattle.unite_sources.specs.Rows.{sourceAtWord, sourcesIn}
 use Rattle.unite_judge.specs.Judging.{sourceJudged, sourcesJudged}
-use Rattle.manifest_write.specs.Answer.{Outcome}
 use Rattle.manifest_read.specs.Answer.{workRoom}
 use Rattle.manifest_read.proofs.Answers.{SameLong}
 use Rattle.encoded.specs.Encoded.{Encoded, holds, refused, encodedOf}
 use Rattle.standing.proofs.Reading.{readInto, Accepted, accepted-is, accepted-judged, read-accepted, read-roomy, accepted-stays}
-use Rattle.encoded_union.specs.Union.{startOf, pieceOf, someBad, manifestOf, bareOf, sourceOf, sourcesOf, unlessUnread, behind}
+use Rattle.encoded_union.specs.Union.{startOf, pieceOf, someBad, manifestOf, bareOf, sourceOf, sourcesOf, behind}
 use Rattle.encoded_union.specs.Steps.{placeOf, sourceWords, Step, sourceInto, Gathered}
 use Rattle.encoded_union.specs.declared.Reading.{Reading}
 use Rattle.encoded_union.specs.declared.Reading.the-variants.{Done, Refused}

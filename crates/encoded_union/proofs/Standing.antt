@@ -1,10 +1,8 @@
 -- Stand-ins: a list of UUIDs with zeros behind it lends what the list alone does. Assumes nothing.
 use Prim.Native.Nat.{ℕ, zero, suc}
-use mathlib.Core.Path.{_≡_, refl, ap}
+use mathlib.Core.Path.{_≡_, refl}
 use mathlib.Core.List.{List, [], _∷_, _++_}
-use lib.ListN.{getD}
 use Rattle.ids.specs.declared.Uuid.{Uuid}
-use Rattle.records.specs.Model.{Borrow}
 use Rattle.borrows.specs.Clone.{freshAt}
 use Rattle.unite_groups.specs.Groups.{Member}
 use Rattle.unite_groups.specs.Chosen.{lentFrom}

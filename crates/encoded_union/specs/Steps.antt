@@ -4,7 +4,6 @@ use mathlib.Core.Path.{_≡_}
 use mathlib.Core.List.{List, [], _∷_, _++_}
 use Rattle.ids.specs.declared.Uuid.{Uuid}
 use Rattle.tables.specs.Layout.{write}
-use Rattle.records.specs.Model.{Manifest}
 use Rattle.records.specs.Words.{cell, nothing, cellWords, treeWords}
 use Rattle.records.specs.Layout.{manifestRowAt, layoutAt}
 use Rattle.records.specs.Row.{at}

@@ -23,7 +23,6 @@ use Rattle.borrows.specs.Clone.{uuidsOf}
 use Rattle.unite_sources.specs.Source.{Source}
 use Rattle.unite_sources.specs.Rows.{sourcesIn}
 use Rattle.unite_judge.specs.Judging.{mostSources, sourcesJudged}
-use Rattle.manifest_write.specs.Answer.{Outcome}
 use Rattle.manifest_read.specs.Answer.{workRoom}
 use Rattle.encoded.specs.Read.{refusedWith}
 use Rattle.encoded_union.specs.Union.{someBad, sourcesOf, unlessUnread, unionOf, callOver, behind, shortUnion, unionTo}

@@ -7,7 +7,7 @@ use native.Mathlib.Nat.{sub-zero}
 use lib.ListN.{length, take, drop, set, replicate, length-set}
 use borrow.Author.Fill.{fill-none, fill-more}
 use Rattle.ids.specs.declared.Uuid.{Uuid}
-use Rattle.tables.specs.Layout.{write, over}
+use Rattle.tables.specs.Layout.{write}
 use Rattle.tables.proofs.Writes.{write-front}
 use Rattle.borrows.specs.Clone.{uuidsOf}
 use Rattle.unite_sources.specs.Source.{Source}

@@ -1,5 +1,6 @@
 // What comes of sources that were read: united into the tables of the result and written, or why not. A refused call leaves the lent output
 // as it was.
+use encoded::least;
 use manifest_write::Written;
 use manifest_write::add_manifest;
 use manifest_write::write_judged;
@@ -170,15 +171,6 @@ fn union_into(
         }
         United::Refused(x) => Written::Refused(x),
     }
-}
-
-fn least(a: usize, b: usize) -> usize
-    ensures { λ r. ⌜ r ≡ a - (a - b) ⌝ }
-{
-    if b < a {
-        return b;
-    }
-    a
 }
 
 // Unites into the part of the result tables that the room and L1 leave. They have room for any manifest within L1.

@@ -1,5 +1,4 @@
 -- What a call returns of a manifest is what the next call takes it for. Assumes nothing.
-use Prim.Native.Nat.{ℕ}
 use mathlib.Core.Path.{_≡_, refl}
 use mathlib.Core.Bool.{Bool, false, true}
 use lib.Dec.{ltb, leb}

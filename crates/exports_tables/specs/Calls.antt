@@ -1,7 +1,7 @@
 -- What a call on lent tables answers.
 use Prim.Native.Nat.{ℕ}
 use mathlib.Core.List.{List, [], _∷_}
-use lib.IntN.{ℤ, pos}
+use lib.IntN.{pos}
 use lib.ListN.{replicate}
 use Rattle.keys.specs.Pick.{pick}
 use Rattle.records.specs.Decode.{Lent}

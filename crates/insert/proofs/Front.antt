@@ -11,7 +11,7 @@ use Rattle.records.specs.Fill.{empty, plus, sum, treeFill, segmentFill}
 use Rattle.records.specs.Layout.{treeRow, treeRunsLaid, treeViewsLaid, treeBytes, segmentsLaid, segmentsRunsLaid, segmentsViewsLaid, segmentBytes, borrowsLaid}
 use Rattle.records.specs.declared.Fill.{Fill}
 use Rattle.emit.specs.declared.LaidTree.{LaidTree}
-use Rattle.records.proofs.Sums.{empty-plus, plus-assoc}
+use Rattle.records.proofs.Sums.{empty-plus}
 use Rattle.records.proofs.Laid.{Table, segments, views, runs, borrows, ids, pool, at, at-empty}
 use Rattle.records.proofs.Columns.{tree-bytes-long, segment-bytes-long}
 use Rattle.emit.proofs.Laid.{joined-long}

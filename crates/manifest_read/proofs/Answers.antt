@@ -23,7 +23,7 @@ use Rattle.lawful.specs.declared.Judged.{Judged}
 use Rattle.lawful.specs.declared.Judged.the-variants.{Breaks}
 use Rattle.copy.specs.Copy.{Outcome, givenAt, copyAtOf}
 use Rattle.copy.proofs.Answers.{given-front}
-use Rattle.manifest_values.specs.Read.{Got, is}
+use Rattle.manifest_values.specs.Read.{Got}
 use Rattle.manifest_rows.specs.Stored.{ManifestIs}
 use Rattle.manifest_rows.proofs.Backs.{Fitting, manifest-back}
 use Rattle.manifest_rows.proofs.Totals.{rows, manifest-rows}

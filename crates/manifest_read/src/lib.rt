@@ -112,7 +112,7 @@ fn read_rows(
 }
 
 // How many bytes an encoded manifest may have.
-const LONGEST: usize = 0x1_0000;
+pub const LONGEST: usize = 0x1_0000;
 
 // Reads a manifest behind what fills `c`: the lent output may hold others before it.
 // inner

@@ -6,7 +6,6 @@ use mathlib.Core.List.{List, [], _∷_, _++_}
 use native.Mathlib.Omega.{arith}
 use lib.ListN.{length}
 use Rattle.keys.specs.Range.{Edge, unbounded, included, excluded}
-use Rattle.ids.specs.declared.SstId.{SstId}
 use Rattle.records.specs.Model.{LastKey, unknown, known, Seen, all, only, View, Run, Tree, Segment, Borrow, Extractor, none, named, Manifest}
 use Rattle.records.specs.Fill.{plus, sum, fits, keyFill, lastKeys, edgeKeys, seenKeys, nameKeys, viewFill, runFill, treeFill, segmentFill, borrowFill, manifestFill}
 use Rattle.records.specs.Fill.{segments as segment-rows, views as view-rows, runs as run-rows, borrows as borrow-rows, ids as id-rows}
@@ -25,7 +24,7 @@ use Rattle.manifest_write.specs.Bytes.{manifestBytes}
 use Rattle.manifest_write.proofs.Bounds.{fitting-most}
 use Rattle.manifest_read.specs.Answer.{brokenOf, workRoom, readOf}
 use Rattle.manifest_round.proofs.Read.{read-back}
-use Rattle.manifest_round.specs.Fits.{Short, EdgeFits, SeenFits, LastFits, NameFits, AllFit, ListFits, ViewFits, RunFits, TreeFits, SegmentFits, IdFits, BorrowFits, ManifestFits}
+use Rattle.manifest_round.specs.Fits.{EdgeFits, SeenFits, LastFits, NameFits, AllFit, ListFits, ViewFits, RunFits, TreeFits, SegmentFits, BorrowFits, ManifestFits}
 use Rattle.manifest_round.specs.Numbers.{ViewNumbers, RunNumbers, TreeNumbers, SegmentNumbers, BorrowNumbers, Numbers}
 
 -- each of the six numbers is below 2 ^ 32

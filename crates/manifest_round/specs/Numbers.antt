@@ -1,5 +1,5 @@
 -- A manifest of document 01: each number is of its field's width, "u32 id", "last_l0_clock_tick (i64)", ULIDs and UUIDs of 16 bytes, else u64.
-use Prim.Native.Nat.{ℕ, _^_, _<_}
+use Prim.Native.Nat.{_^_, _<_}
 use mir.Syntax.{w64}
 use mir.Val.{SFits}
 use Rattle.records.specs.Model.{View, Run, Tree, Segment, Borrow, Manifest}

@@ -146,7 +146,7 @@ module _ (rt vt pt : List ℕ) where
 
   -- ---- trees
 
-  tree-in : (c : Fill) (t : Tree) → allOf idSmall (t .runs) ≡ true
+  pub tree-in : (c : Fill) (t : Tree) → allOf idSmall (t .runs) ≡ true
       → Lies runs rt c (treeFill t) (treeRunsLaid c t) → Lies views vt c (treeFill t) (treeViewsLaid c t) → Lies pool pt c (treeFill t) (treeBytes t)
       → treePlaced (length pt) vt rt (treeRow c t) ≡ true
   unfolding treePlaced treeRow treeRunsLaid treeViewsLaid treeBytes treeFill
@@ -194,7 +194,7 @@ module _ (rt vt pt : List ℕ) where
       (lies-rest pool pt d k f (s .prefix) (treeBytes (s .tree)) refl q) in
       segment-row-in st (c .segments) (segmentRow c s) h (le-leb (c .bytes + length (s .prefix)) (length pt) (omega (arith, lies-first pool pt d k f (s .prefix) (treeBytes (s .tree)) refl q .room))) (simp add-zero at t)
 
-  segments-in : (st : List ℕ) (c : Fill) (ss : List Segment) → allOf (λ s. allOf idSmall (s .tree .runs)) ss ≡ true
+  pub segments-in : (st : List ℕ) (c : Fill) (ss : List Segment) → allOf (λ s. allOf idSmall (s .tree .runs)) ss ≡ true
       → Lies segments st c (sum segmentFill ss) (segmentsLaid c ss) → Lies runs rt c (sum segmentFill ss) (segmentsRunsLaid c ss)
       → Lies views vt c (sum segmentFill ss) (segmentsViewsLaid c ss) → Lies pool pt c (sum segmentFill ss) (joined segmentBytes ss)
       → segmentsPlaced (length pt) vt rt st (record { first = c .segments; count = length ss }) ≡ true
@@ -243,7 +243,7 @@ module _ (bt it pt : List ℕ) where
       let all : leb (c .ids + length (b .ids)) (length it / 2) ≡ true = window-in (c .ids) (length (b .ids)) 2 (length it) (omega arith) (omega (arith, i .room)) in
       rw (borrow-at-back bt (c .borrows) (borrowRow c b) h, code, path, all)
 
-  borrows-in : (c : Fill) (bs : List Borrow) → Lies borrows bt c (sum borrowFill bs) (borrowsLaid c bs) → Lies ids it c (sum borrowFill bs) (joined borrowIds bs) → Lies pool pt c (sum borrowFill bs) (joined borrowPath bs)
+  pub borrows-in : (c : Fill) (bs : List Borrow) → Lies borrows bt c (sum borrowFill bs) (borrowsLaid c bs) → Lies ids it c (sum borrowFill bs) (joined borrowIds bs) → Lies pool pt c (sum borrowFill bs) (joined borrowPath bs)
       → borrowsPlaced (length pt) it bt (record { first = c .borrows; count = length bs }) ≡ true
   unfolding borrowsPlaced borrowsLaid
   borrows-in c bs h i p =
@@ -270,7 +270,7 @@ module _ (bt it pt : List ℕ) where
       ))
       c bs (h, (i, p)))
 
-name-in : (n from : ℕ) (e : Extractor) → from + length (run (nameKeys e)) ≤ n → namePlaced n (nameRow from e) ≡ true
+pub name-in : (n from : ℕ) (e : Extractor) → from + length (run (nameKeys e)) ≤ n → namePlaced n (nameRow from e) ≡ true
 name-in n from none h = refl
 name-in n from (named k) h = le-leb (from + length k) n (rw (append-nil k) at h)
 

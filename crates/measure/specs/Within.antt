@@ -1,11 +1,11 @@
 -- L1's numbers, over a manifest of the model.
 use Prim.Native.Nat.{ℕ}
 use mathlib.Core.Bool.{Bool, not, _&&_}
-use mathlib.Core.List.{List, [], _∷_, _++_}
+use mathlib.Core.List.{List, _++_}
 use lib.Dec.{leb}
 use lib.ListN.{length}
 use Rattle.tables.specs.Layout.{joined}
-use Rattle.records.specs.Model.{View, Run, Tree, Segment, Borrow, Manifest, trees}
+use Rattle.records.specs.Model.{View, Run, Tree, Manifest, trees}
 use Rattle.records.specs.Fill.{fits, manifestFill, viewKeys, nameKeys}
 use Rattle.records.specs.declared.Fill.{Fill}
 use Rattle.records.specs.declared.Limits.{Limits}

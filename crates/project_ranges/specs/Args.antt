@@ -5,11 +5,9 @@ use mathlib.Core.List.{List}
 use lib.Dec.{ltb, leb}
 use lib.ListN.{length}
 use Rattle.keys.specs.Pick.{pick}
-use Rattle.keys.specs.Range.{Edges}
 use Rattle.keys.specs.Pool.{edgesOf}
 use Rattle.keys.specs.declared.Range.{Range}
 use Rattle.records.specs.Row.{at, boundAt}
-use Rattle.records.specs.declared.Limits.{Limits}
 use Rattle.tables.specs.Layout.{upTo}
 use Rattle.segments.specs.Refuses.{rangeOver, refuses5}
 use Rattle.project_views.specs.Reach.{reachOf}

@@ -1,5 +1,5 @@
 -- A tree's own range: its unbounded ends replaced, and when refusals 8 and 9 are given.
-use Prim.Native.Nat.{ℕ, zero, suc}
+use Prim.Native.Nat.{ℕ, suc}
 use mathlib.Core.Bool.{Bool, true, false, _&&_}
 use mathlib.Core.List.{List, [], _∷_}
 use Rattle.keys.specs.Pick.{pick}

@@ -1,6 +1,6 @@
 -- Which manifest stands in the lent tables.
 use Prim.Native.Nat.{ℕ, _+_, _/_}
-use mathlib.Core.List.{List, [], _∷_, _++_}
+use mathlib.Core.List.{List}
 use lib.ListN.{length}
 use Rattle.keys.specs.Pool.{partOf, edgesOf}
 use Rattle.ids.specs.declared.SstId.{SstId}

@@ -12,7 +12,7 @@ use Rattle.tables.specs.Layout.{joined}
 use Rattle.records.specs.Model.{LastKey, unknown, known, Seen, all, only, View, Run, Tree, Segment, Borrow, Extractor, none, named, Manifest}
 use Rattle.records.specs.Decode.{Lent}
 use Rattle.records.specs.Words.{viewWords, runWords, segmentWords, borrowWords, idWords}
-use Rattle.records.specs.Fill.{empty, plus, sum, keyFill, segments, lastKeys, edgeKeys, seenKeys, viewKeys, nameKeys, viewFill, runFill, treeFill, segmentFill, borrowFill}
+use Rattle.records.specs.Fill.{empty, plus, sum, keyFill, segments, lastKeys, edgeKeys, viewKeys, nameKeys, viewFill, runFill, treeFill, segmentFill, borrowFill}
 use Rattle.records.specs.declared.Fill.{Fill}
 use Rattle.records.specs.declared.Place.{Place}
 use Rattle.records.specs.declared.Last.{Last}

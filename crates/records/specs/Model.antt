@@ -1,7 +1,7 @@
 -- Document 01's records, over plain lists. A key, a prefix, a path and a name are lists of bytes.
 use Prim.Native.Nat.{ℕ}
 use mathlib.Core.Bool.{Bool}
-use mathlib.Core.List.{List, [], _∷_, _++_}
+use mathlib.Core.List.{List, [], _∷_}
 use lib.IntN.{ℤ}
 use Rattle.keys.specs.Range.{Edge, unbounded, included, excluded, Edges}
 use Rattle.keys.specs.Meet.{meetOf}

@@ -1,8 +1,7 @@
 -- The new manifest.
-use Prim.Native.Nat.{ℕ}
-use mathlib.Core.Bool.{false, true}
+use mathlib.Core.Bool.{true}
 use mathlib.Core.List.{[]}
-use lib.IntN.{pos, negsuc}
+use lib.IntN.{negsuc}
 use Rattle.ids.specs.declared.ViewMark.the-variants as view-mark
 use Rattle.ids.specs.declared.SstMark.the-variants as sst-mark
 use Rattle.records.specs.Model.{Tree, none, Manifest}

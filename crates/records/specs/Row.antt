@@ -1,13 +1,10 @@
 -- What a row of each table says, word by word.
 use Prim.Native.Nat.{ℕ, zero, suc, _+_, _*_}
-use mathlib.Core.List.{List, [], _∷_, _++_}
+use mathlib.Core.List.{List}
 use lib.ListN.{getD}
 use Rattle.keys.specs.declared.Bound.{Bound}
 use Rattle.keys.specs.declared.Bound.the-variants.{Unbounded, Included, Excluded}
-use Rattle.keys.specs.declared.Range.{Range}
-use Rattle.ids.specs.declared.ViewId.{ViewId}
 use Rattle.ids.specs.declared.SstId.{SstId}
-use Rattle.ids.specs.declared.Uuid.{Uuid}
 use Rattle.ids.specs.declared.ViewMark.{ViewMark}
 use Rattle.ids.specs.declared.ViewMark.the-variants as view-mark
 use Rattle.ids.specs.declared.SstMark.{SstMark}

@@ -10,7 +10,6 @@ use Rattle.ids.specs.declared.SstMark.{SstMark}
 use Rattle.ids.specs.declared.SstMark.the-variants as sst-mark
 use Rattle.ids.specs.declared.Final.{Final}
 use Rattle.ids.specs.declared.Final.the-variants as final
-use Rattle.tables.specs.declared.Window.{Window}
 use Rattle.records.specs.declared.Cell.{Cell}
 use Rattle.records.specs.declared.Cells.{Cells}
 use Rattle.records.specs.declared.Last.{Last}

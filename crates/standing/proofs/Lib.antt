@@ -1,4 +1,3 @@
-pub mod Parts
 pub mod Placing
 pub mod Staying
 pub mod Small

@@ -1,13 +1,11 @@
 -- A MANIFEST THAT STANDS IN TABLES IS JUDGED AS IT IS, from whichever cursor on: it lies within them. Assumes nothing.
 use Prim.Native.Nat.{ℕ, _+_}
-use mathlib.Core.Path.{_≡_, sym, ap, _∙_}
+use mathlib.Core.Path.{_≡_}
 use mathlib.Core.Bool.{true}
 use mathlib.Core.List.{List, _++_}
 use native.Mathlib.Omega.{arith}
-use native.Mathlib.Nat.{add-assoc}
 use lib.ListN.{length}
 use Rattle.tables.specs.Layout.{joined}
-use Rattle.tables.proofs.Holds.{holds-place}
 use Rattle.records.specs.Model.{Manifest}
 use Rattle.records.specs.Fill.{plus, sum, nameKeys, keyFill, treeFill, segmentFill, borrowFill, manifestFill}
 use Rattle.records.specs.Layout.{run, treeBytes, treeViewsLaid, treeRunsLaid, segmentBytes, segmentsLaid, segmentsViewsLaid, segmentsRunsLaid, borrowsLaid, borrowIds, borrowPath, pastTree, pastSegments, pastName, manifestRowAt, layoutAt}
@@ -24,7 +22,7 @@ use Rattle.measure.proofs.Lies.{both, Lies, lies-first, lies-rest, lies-cut, li
 use Rattle.lawful.specs.Judge.{judgedOf}
 use Rattle.history.proofs.Tables.{Small}
 use Rattle.manifest_read.specs.Answer.{brokenOf}
-use Rattle.standing.proofs.Parts.{tree-in, segments-in, borrows-in, name-in}
+use Rattle.measure.proofs.Layouts.{tree-in, segments-in, borrows-in, name-in}
 
 module _ (a : Fill) (m : Manifest) (l : Lent) (s : Stands a m l) (small : Small m) where
   pub stands-placed : placed l (manifestRowAt a m) ≡ true

@@ -1,10 +1,9 @@
 -- WHAT READING BEHIND A CURSOR LEAVES: the manifest that the bytes are stands there, accepted, or nothing changed. Assumes nothing.
 use Prim.Native.Nat.{ℕ}
 use mathlib.Core.Path.{_≡_, refl, sym, ap, subst, _∙_}
-use mathlib.Core.Bool.{Bool, true, false, not, _&&_}
+use mathlib.Core.Bool.{Bool, true, false, not}
 use mathlib.Core.List.{List}
 use native.Mathlib.Omega.{arith}
-use lib.ListN.{length}
 use Rattle.keys.specs.Pick.{pick}
 use Rattle.keys.proofs.Says.{true-says}
 use Rattle.records.specs.Model.{Manifest}
@@ -17,7 +16,7 @@ use Rattle.records.specs.declared.ManifestRow.{ManifestRow}
 use Rattle.records.specs.declared.Refusal.{Refusal}
 use Rattle.records.proofs.Cursor.{Stands, stands-decode}
 use Rattle.measure.specs.Within.{within}
-use Rattle.measure.proofs.Fits.{Under, says-fits, under}
+use Rattle.measure.proofs.Fits.{says-fits, under}
 use Rattle.measure.proofs.Lies.{and-each}
 use Rattle.lawful.specs.Judge.{judgedOf}
 use Rattle.lawful.specs.declared.Judged.{Judged}

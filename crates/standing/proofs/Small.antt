@@ -6,7 +6,7 @@ use mathlib.Core.List.{List}
 use native.Mathlib.Omega.{arith}
 use borrow.Author.Tests.{lt-ltb}
 use lib.ListN.{length}
-use Rattle.records.specs.Model.{Run, Tree, Segment, Manifest}
+use Rattle.records.specs.Model.{Tree, Segment, Manifest}
 use Rattle.measure.specs.Tests.{allOf}
 use Rattle.measure.proofs.Lies.{both, and-each}
 use Rattle.measure.proofs.Layouts.{idSmall}

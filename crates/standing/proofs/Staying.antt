@@ -1,12 +1,11 @@
 -- A manifest laid out behind a cursor stands there, and what stood before it stands on. Assumes nothing.
 use Prim.Native.Nat.{ℕ, _+_, _-_, _≤_}
-use mathlib.Core.Path.{_≡_, refl, sym, ap, _∙_}
+use mathlib.Core.Path.{_≡_, refl, ap, _∙_}
 use mathlib.Core.Bool.{true}
 use mathlib.Core.List.{List, _++_, append-assoc}
 use native.Mathlib.Omega.{arith}
 use lib.ListN.{length, take, drop}
 use lib.Seq.{length-take-le, take-add, take-append-add}
-use Rattle.keys.proofs.Says.{true-says}
 use Rattle.tables.specs.Layout.{write}
 use Rattle.tables.proofs.Holds.{Holds, holds-at}
 use Rattle.tables.proofs.Writes.{write-length}
@@ -17,7 +16,7 @@ use Rattle.records.specs.Decode.{Lent}
 use Rattle.records.specs.declared.Fill.{Fill}
 use Rattle.records.proofs.Laid.{Table, segments, views, runs, borrows, ids, pool, at, at-plus}
 use Rattle.records.proofs.Cursor.{tableOf, layout-at-long, Stands}
-use Rattle.measure.proofs.Fits.{Under, says-fits, under}
+use Rattle.measure.proofs.Fits.{Under, under}
 use Rattle.copy.specs.Copy.{roomOf, laidAt}
 
 -- ---- in one table

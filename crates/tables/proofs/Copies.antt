@@ -5,7 +5,7 @@ use mathlib.Core.List.{List, append-assoc}
 use native.Mathlib.Omega.{arith}
 use native.Mathlib.Numerals.{add-one}
 use lib.ListN.{length, getD, set, take, drop, length-set}
-use lib.Seq.{paste, paste-zero, paste-suc, length-take-le, take-length}
+use lib.Seq.{paste, paste-zero, paste-suc, take-length}
 use Rattle.tables.specs.Layout.{write}
 
 -- the first k of src stand in d₀ from `at` on

@@ -4,7 +4,7 @@ use mathlib.Core.Path.{_≡_, refl, sym, _∙_}
 use mathlib.Core.Bool.{Bool, true, false}
 use native.Mathlib.Omega.{arith}
 use lib.Dec.{leb}
-use borrow.Author.Tests.{leb-true, lt-leb, le-leb}
+use borrow.Author.Tests.{leb-true, lt-leb}
 use Rattle.keys.proofs.Says.{says-same, says-le}
 use Rattle.keys.specs.Pick.{pick}
 use Rattle.tables.specs.Window.{liesIn, heldOf}

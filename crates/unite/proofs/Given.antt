@@ -1,8 +1,8 @@
 -- Which answer the union without an extractor gives, by its tests: 4, 16, or the union laid. Assumes nothing.
-use Prim.Native.Nat.{ℕ, _+_, _*_, _/_, _≤_, _<_}
+use Prim.Native.Nat.{ℕ, _/_, _≤_, _<_}
 use mathlib.Core.Path.{_≡_, refl, sym, ap, _∙_}
 use mathlib.Core.Bool.{Bool, true, false, not}
-use mathlib.Core.List.{List, [], _∷_}
+use mathlib.Core.List.{List, []}
 use native.Mathlib.Omega.{arith}
 use lib.Dec.{ltb}
 use lib.ListN.{length}
@@ -33,7 +33,7 @@ use Rattle.unite_groups.specs.Chosen.{lentFrom, memberFill}
 use Rattle.unite_groups.proofs.Lent.{lent-fill}
 use Rattle.unite.specs.declared.United.the-variants.{Done}
 use Rattle.unite.specs.United.{assembled, refuses15All}
-use Rattle.unite.specs.Answer.{Outcome, refused, unionTo}
+use Rattle.unite.specs.Answer.{refused, unionTo}
 use Rattle.unite.proofs.Plain.{plain-fill, lent-long}
 
 too-much : (most c more : Fill) → addOf most c more ≡ Broken → fits (plus c more) most ≡ false

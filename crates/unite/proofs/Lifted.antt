@@ -1,16 +1,16 @@
 -- What the code holds of the used sources is what is said of them. Assumes nothing.
 use Prim.Native.Nat.{ℕ, zero, suc, _+_, _*_}
-use mathlib.Core.Path.{_≡_, refl, sym, ap, _∙_}
+use mathlib.Core.Path.{_≡_, refl, ap, _∙_}
 use mathlib.Core.Bool.{Bool}
 use mathlib.Core.List.{List, [], _∷_, _++_, map}
 use Rattle.tables.specs.Layout.{write, upTo, joined}
 use Rattle.ids.specs.declared.Uuid.{Uuid}
-use Rattle.records.specs.Model.{Tree, Borrow}
-use Rattle.records.specs.Row.{at, treeAt}
-use Rattle.records.specs.Decode.{Lent, treeIn, manifestIn}
+use Rattle.records.specs.Model.{Tree}
+use Rattle.records.specs.Row.{at}
+use Rattle.records.specs.Decode.{Lent, manifestIn}
 use Rattle.unite_groups.specs.Groups.{Member, grouped}
 use Rattle.unite_groups.specs.Chosen.{Supply, chosenAll, lentFrom}
-use Rattle.unite_groups.specs.Rows.{membersIn, suppliesIn, enteredFrom}
+use Rattle.unite_groups.specs.Rows.{suppliesIn, enteredFrom}
 use Rattle.unite_groups.proofs.Results.{entered-grouped}
 use Rattle.unite_trees.specs.Rows.{treesIn}
 use Rattle.unite_sources.specs.Source.{Source}

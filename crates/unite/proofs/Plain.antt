@@ -4,15 +4,15 @@ use mathlib.Core.Path.{_≡_, refl, sym, ap, _∙_}
 use mathlib.Core.Bool.{true}
 use mathlib.Core.List.{List, [], _∷_, _++_, append-nil}
 use native.Mathlib.Omega.{arith}
-use lib.IntN.{pos, negsuc}
+use lib.IntN.{negsuc}
 use lib.ListN.{length}
-use Rattle.tables.specs.Layout.{write, over, joined, upTo}
+use Rattle.tables.specs.Layout.{write, over, joined}
 use Rattle.tables.proofs.Writes.{write-front, then}
 use Rattle.tables.proofs.Joined.{upTo-length}
 use Rattle.ids.specs.declared.Uuid.{Uuid}
 use Rattle.records.specs.Model.{Tree, Borrow, none, Manifest}
-use Rattle.records.specs.Fill.{empty, plus, sum, treeFill, borrowFill, manifestFill}
-use Rattle.records.specs.Layout.{treeRow, treeBytes, treeViewsLaid, treeRunsLaid, segmentsLaid, segmentsViewsLaid, segmentsRunsLaid, borrowsLaid, borrowIds, borrowPath, pastName, manifestRow, layout}
+use Rattle.records.specs.Fill.{empty, plus, sum, treeFill, manifestFill}
+use Rattle.records.specs.Layout.{treeRow, treeBytes, treeViewsLaid, treeRunsLaid, segmentsViewsLaid, segmentsRunsLaid, borrowsLaid, borrowIds, borrowPath, pastName, manifestRow, layout}
 use Rattle.records.specs.declared.Fill.{Fill}
 use Rattle.records.specs.declared.Name.the-variants.{Absent}
 use Rattle.records.specs.declared.ManifestRow.{ManifestRow}

@@ -12,7 +12,6 @@ use Rattle.records.specs.Layout.{layout, manifestRow}
 use Rattle.records.specs.Decode.{Lent}
 use Rattle.records.specs.Refusals.{refusal}
 use Rattle.records.specs.declared.Limits.{Limits}
-use Rattle.records.specs.declared.ManifestRow.{ManifestRow}
 use Rattle.records.specs.declared.Refusal.{Refusal}
 use Rattle.records.specs.declared.Refusal.the-variants.{Unlawful, OverLimit, NoRoom, ExtractorsDiffer, Overlap, SegmentsUnnamed, SourcesNest, NoFinal, TooFewFresh}
 use Rattle.lawful.specs.declared.Judged.{Judged}

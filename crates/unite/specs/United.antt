@@ -1,8 +1,7 @@
 -- The union of some sources.
-use Prim.Native.Nat.{ℕ, _+_, _-_}
-use mathlib.Core.Bool.{Bool, true}
+use Prim.Native.Nat.{ℕ, _+_}
+use mathlib.Core.Bool.{Bool}
 use mathlib.Core.List.{List, [], _∷_, _++_}
-use lib.IntN.{pos, negsuc}
 use lib.ListN.{length}
 use Rattle.ids.specs.declared.Uuid.{Uuid}
 use Rattle.records.specs.Model.{Tree, Segment, Borrow, Extractor, none, named, Manifest}

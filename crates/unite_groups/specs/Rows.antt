@@ -7,7 +7,7 @@ use lib.Dec.{leb}
 use Rattle.keys.specs.Pick.{pick}
 use Rattle.tables.specs.Layout.{upTo}
 use Rattle.records.specs.Row.{at, placeAt, windowAt}
-use Rattle.records.specs.Decode.{bytesIn, idsIn, borrowsIn}
+use Rattle.records.specs.Decode.{bytesIn, idsIn}
 use Rattle.records.specs.Model.{Borrow}
 use Rattle.ids.specs.declared.SstId.{SstId}
 use Rattle.ids.specs.declared.Uuid.{Uuid}

@@ -1,19 +1,18 @@
 -- The arguments judged, one test after the other. Assumes nothing.
 use Prim.Native.Nat.{ℕ, zero, suc, _+_, _-_, _*_, _/_, _≤_, _<_}
 use mathlib.Core.Path.{_≡_, refl, sym, ap, _∙_}
-use mathlib.Core.Bool.{Bool, true, false, not, _&&_, _||_}
+use mathlib.Core.Bool.{Bool, true, false, _||_}
 use mathlib.Core.List.{List}
 use native.Mathlib.Omega.{arith}
 use native.Mathlib.Numerals.{add-one}
 use native.Mathlib.Decide.{decLt}
-use lib.Dec.{ltb, leb}
-use borrow.Author.Tests.{not-true, not-false, lt-ltb, le-ltb, lt-leb, le-leb}
-use Rattle.keys.specs.Pick.{pick}
-use lib.IntN.{pos, negsuc}
+use lib.Dec.{ltb}
+use borrow.Author.Tests.{lt-ltb, le-ltb, lt-leb, le-leb}
+use lib.IntN.{negsuc}
 use Rattle.tables.specs.declared.Window.{Window}
 use Rattle.records.specs.declared.TreeRow.{TreeRow}
 use Rattle.records.specs.declared.Name.{Name}
-use Rattle.records.specs.declared.Name.the-variants.{Absent, Named}
+use Rattle.records.specs.declared.Name.the-variants.{Absent}
 use Rattle.records.specs.Row.{at, placeAt, windowAt, treeAt}
 use Rattle.records.specs.Decode.{Lent}
 use Rattle.records.specs.declared.Limits.{Limits}
@@ -25,7 +24,7 @@ use Rattle.lawful.specs.declared.Judged.the-variants.{Lawful, Breaks}
 use Rattle.measure.specs.Placed.{opened}
 use Rattle.unite_sources.specs.Source.{greater}
 use Rattle.unite_sources.specs.Rows.{manifestAtWord}
-use Rattle.unite_judge.specs.Judging.{mostSources, pathOver, somePathOver, codesKnown, sourceJudged, andThen, sourcesJudged, workShort}
+use Rattle.unite_judge.specs.Judging.{mostSources, pathOver, somePathOver, codesKnown, sourceJudged, sourcesJudged, workShort}
 use Rattle.unite_judge.specs.Words.{greatestAt, nameAt, agreedAt}
 
 or-true : (a : Bool) → (a || true) ≡ true

@@ -1,11 +1,9 @@
 -- What the rows say together is what the sources say. Assumes nothing.
 use Prim.Native.Nat.{ℕ, zero, suc, _+_, _*_}
-use mathlib.Core.Path.{_≡_, refl, sym, ap, _∙_}
+use mathlib.Core.Path.{_≡_, refl, ap, _∙_}
 use mathlib.Core.List.{List, [], _∷_, _++_}
-use Rattle.tables.specs.Layout.{upTo}
 use Rattle.tables.proofs.Holds.{upTo-front}
 use Rattle.records.specs.Row.{at}
-use Rattle.records.specs.Model.{Extractor}
 use Rattle.records.specs.Decode.{Lent, nameIn, manifestIn}
 use Rattle.unite_sources.specs.Source.{Source, greater, greatestFrom, greatestSeq, agreedName}
 use Rattle.unite_sources.specs.Rows.{manifestAtWord, sourceAtWord, sourcesIn}

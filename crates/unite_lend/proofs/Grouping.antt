@@ -1,19 +1,17 @@
 -- The members of one source: how many there are, and how they are entered. Assumes nothing.
-use Prim.Native.Nat.{ℕ, zero, suc, _+_, _-_, _*_, _/_, _^_, _≤_, _<_}
+use Prim.Native.Nat.{ℕ, _+_, _-_, _*_, _/_, _^_, _≤_, _<_}
 use mathlib.Core.Path.{_≡_, refl, sym, ap, _∙_}
-use mathlib.Core.Bool.{true}
 use mathlib.Core.List.{List, [], _∷_, _++_}
 use native.Mathlib.Omega.{arith}
 use native.Mathlib.Nat.{sub-zero}
 use lib.ListN.{length, take, drop}
-use Rattle.tables.specs.Layout.{write, joined}
 use Rattle.tables.specs.Window.{heldOf}
 use Rattle.tables.specs.declared.Window.{Window}
 use Rattle.ids.specs.Names.{idsOf}
 use Rattle.ids.specs.declared.SstId.{SstId}
 use Rattle.ids.specs.declared.Uuid.{Uuid}
-use Rattle.records.specs.Model.{Manifest, Borrow}
-use Rattle.records.specs.Fill.{plus, sum, fits, nameKeys, borrowFill, manifestFill}
+use Rattle.records.specs.Model.{Manifest}
+use Rattle.records.specs.Fill.{sum, borrowFill, manifestFill}
 use Rattle.records.specs.Row.{at, placeAt, windowAt}
 use Rattle.records.specs.Words.{idWords}
 use Rattle.records.specs.Layout.{idsLaid}
@@ -22,7 +20,7 @@ use Rattle.records.specs.declared.Fill.{Fill}
 use Rattle.records.specs.declared.Limits.{Limits}
 use Rattle.records.specs.declared.Place.{Place}
 use Rattle.records.specs.declared.ManifestRow.{ManifestRow}
-use Rattle.records.proofs.Columns.{keys-fill, tree-fill, segments-fill, borrows-fill}
+use Rattle.records.proofs.Columns.{borrows-fill}
 use Rattle.measure.proofs.Fits.{Under, under}
 use Rattle.lawful.specs.Judge.{judgedOf}
 use Rattle.lawful.specs.declared.Judged.the-variants.{Lawful}

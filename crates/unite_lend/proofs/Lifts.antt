@@ -1,7 +1,7 @@
 -- From rows to sources: each used source is sound where all sources are lawful. Assumes nothing.
-use Prim.Native.Nat.{ℕ, zero, suc, _+_, _*_, _≤_, _<_}
+use Prim.Native.Nat.{ℕ, zero, suc, _+_, _*_, _≤_}
 use mathlib.Core.Path.{_≡_, refl, sym, ap, _∙_}
-use mathlib.Core.Bool.{Bool, true, false, _&&_}
+use mathlib.Core.Bool.{Bool, true, false}
 use mathlib.Core.List.{List, [], _∷_, _++_}
 use native.Mathlib.Omega.{arith}
 use lib.Dec.{leb}
@@ -10,13 +10,12 @@ use borrow.Author.Tests.{le-leb}
 use Rattle.keys.specs.Pick.{pick}
 use Rattle.keys.specs.Key.{isLess}
 use Rattle.keys.specs.Meet.{startOrder}
-use Rattle.tables.specs.Layout.{upTo}
 use Rattle.records.specs.Model.{View}
 use Rattle.records.specs.Row.{at}
 use Rattle.records.specs.Decode.{Lent}
 use Rattle.records.specs.declared.Limits.{Limits}
 use Rattle.measure.specs.Tests.{allOf, allBelow}
-use Rattle.measure.proofs.Lists.{all-upTo, all-append}
+use Rattle.measure.proofs.Lists.{all-upTo}
 use Rattle.lawful.specs.Judge.{judgedOf}
 use Rattle.lawful.specs.declared.Judged.{Judged}
 use Rattle.lawful.specs.declared.Judged.the-variants.{Lawful, Breaks}
@@ -28,7 +27,7 @@ use Rattle.unite_sources.specs.Used.{rangedAs, rangedBy}
 use Rattle.unite_sources.specs.Rows.{manifestAtWord, viewsAtWord, wordsOf, begins}
 use Rattle.unite_sources.proofs.Results.{begins-whats}
 use Rattle.unite_judge.specs.Judging.{codesKnown, sourceJudged, andThen, sourcesJudged}
-use Rattle.unite_lend.specs.Used.{isLawful, soundAt, soundBelow}
+use Rattle.unite_lend.specs.Used.{soundAt, soundBelow}
 
 -- ---- what each passes, each of them passes arranged
 

@@ -1,7 +1,7 @@
 -- The segments of a union with an extractor, as the code finds them: sources by the words at which their rows begin, prefixes from a list
 -- of places. `unite_sources` says the same over sources.
 use Prim.Native.Nat.{ℕ}
-use mathlib.Core.Bool.{Bool, not}
+use mathlib.Core.Bool.{not}
 use mathlib.Core.List.{List, [], _∷_, _++_}
 use Rattle.records.specs.Model.{Tree, Segment}
 use Rattle.records.specs.Decode.{Lent}

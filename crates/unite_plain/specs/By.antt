@@ -1,4 +1,4 @@
--- The union of used sources in order, by the extractor name that all sources agree on.
+-- The union of used sources in order, by the extractor name that all sources agree on: how the code is divided. No public promise speaks of it.
 use Prim.Native.Nat.{ℕ}
 use mathlib.Core.List.{List}
 use Rattle.ids.specs.declared.Uuid.{Uuid}

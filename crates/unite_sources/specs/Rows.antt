@@ -1,25 +1,21 @@
 -- Sources as they are lent: a table of 22 words a row over one set of six tables: 0 tree, 10 segments, 12 name, 15 last_l0_seq, 16 borrows,
 -- 18 path, 20 checkpoint. Of a manifest the other numbers are not asked for, and stand as those of the new one.
 use Prim.Native.Nat.{ℕ, _+_, _*_, _/_}
-use lib.IntN.{pos, negsuc}
-use mathlib.Core.Bool.{Bool, true, false, _&&_}
+use lib.IntN.{negsuc}
+use mathlib.Core.Bool.{Bool, true, _&&_}
 use lib.Dec.{leb}
 use Rattle.tables.specs.Window.{heldOf}
 use mathlib.Core.List.{List, [], _∷_}
 use lib.ListN.{length}
 use Rattle.tables.specs.Layout.{upTo, joined}
-use Rattle.ids.specs.declared.Uuid.{Uuid}
 use Rattle.records.specs.Row.{at, placeAt, windowAt, treeAt, optional}
 use Rattle.records.specs.Decode.{Lent, bytesIn, treeIn, segmentsIn, nameIn, manifestIn}
 use Rattle.records.specs.Model.{View, Tree, Extractor, segmentTrees}
 use Rattle.measure.specs.Within.{treeViews}
 use Rattle.segments.specs.Prefixes.{prefixesIn}
 use Rattle.records.specs.declared.ManifestRow.{ManifestRow}
-use Rattle.records.specs.declared.Name.{Name}
 use Rattle.records.specs.declared.Name.the-variants.{Absent, Named}
-use Rattle.records.specs.declared.Place.{Place}
 use Rattle.unite_ranges.specs.Arranged.{Ranged}
-use Rattle.unite_ranges.specs.Rows.{rangedIn}
 use Rattle.merge.specs.Merge.{treeOf}
 use Rattle.unite_sources.specs.Source.{Source}
 use Rattle.unite_sources.specs.Prefixed.{amongAll}

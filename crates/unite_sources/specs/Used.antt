@@ -1,13 +1,11 @@
 -- "sources .. with no views are set aside. The others are sorted stably by the start of their bounding effective range."
-use Prim.Native.Nat.{ℕ}
 use mathlib.Core.Bool.{Bool, true, false}
 use mathlib.Core.List.{List, [], _∷_, _++_}
-use Rattle.keys.specs.Range.{Edges}
 use Rattle.records.specs.Model.{View, Tree, Segment}
 use Rattle.measure.specs.Within.{allViews}
 use Rattle.merge.specs.Merge.{someOf}
 use Rattle.unite_ranges.specs.Bounding.{Bounding, none, spans, boundingOf}
-use Rattle.unite_ranges.specs.Arranged.{Ranged, arranged, someOverlap, whats}
+use Rattle.unite_ranges.specs.Arranged.{Ranged, arranged, someOverlap}
 use Rattle.unite_sources.specs.Source.{Source}
 
 -- a thing with its bounding range; with no views it has none, and is set aside

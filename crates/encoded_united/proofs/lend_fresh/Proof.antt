@@ -1,7 +1,5 @@
-use mathlib.Core.Path.{refl}
 use Rattle.encoded_united.proofs.Lending.{lent-is}
 use borrow.Author.Needs.{needs}
-use mathlib.Core.Path.{refl}
 use Rattle.encoded_united.proofs.Lending.{lent-is}
 use borrow.Author.Needs.{needs}
 use Rattle.encoded_united.proofs.lend_fresh.Statement.{statement}

@@ -3,7 +3,6 @@ use native.Mathlib.Omega.{arith}
 use Rattle.manifest_rows.specs.Stored.{lent}
 use Rattle.encoded_united.proofs.Lending.{lent-again}
 use Rattle.encoded_united.proofs.Uniting.{wide}
-use borrow.Author.Needs.{needs}
 use Rattle.encoded_united.proofs.union_lent.Statement.{statement}
 use Rattle.encoded_united.proofs.union_lent.Tie as tie
 

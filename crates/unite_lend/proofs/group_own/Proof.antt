@@ -1,6 +1,4 @@
 use denote.Ref.{now}
-use native.Mathlib.Omega.{arith}
-use mathlib.Core.Path.{refl, _∙_}
 use Rattle.records.specs.Decode.{Lent}
 use Rattle.unite_lend.proofs.Grouping.{own-space, own-most, own-entered}
 use borrow.Author.Needs.{needs}

@@ -1,6 +1,5 @@
 use denote.Ref.{now}
-use native.Mathlib.Omega.{arith}
-use mathlib.Core.Path.{refl, _∙_}
+use mathlib.Core.Path.{_∙_}
 use Rattle.records.specs.Decode.{Lent}
 use Rattle.unite_lend.proofs.Grouping.{room-groups, room-ids, next-groups, next-ids, total-groups, total-ids, source-entered}
 use borrow.Author.Needs.{needs}

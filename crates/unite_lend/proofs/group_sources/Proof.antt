@@ -1,12 +1,11 @@
 use denote.Ref.{now}
 use native.Mathlib.Omega.{arith}
-use mathlib.Core.Path.{refl, _∙_}
+use mathlib.Core.Path.{refl}
 use Rattle.records.specs.Decode.{Lent}
 use Prim.Native.Nat.{_-_}
 use lib.ListN.{length}
 use Rattle.unite_groups.specs.Rows.{suppliesIn}
 use Rattle.unite_lend.proofs.Gathering.{Gathered, gathered-none, gathered-sound, gathered-own, gathered-groups, gathered-work, gathered-more, gathered-all, gathered-long}
-use borrow.Author.Needs.{needs}
 use Rattle.unite_lend.proofs.group_sources.Statement.{statement}
 use Rattle.unite_lend.proofs.group_sources.Tie as tie
 

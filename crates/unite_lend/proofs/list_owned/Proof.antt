@@ -1,6 +1,6 @@
 use denote.Ref.{now}
 use native.Mathlib.Omega.{arith}
-use mathlib.Core.Path.{refl, _∙_}
+use mathlib.Core.Path.{refl}
 use Rattle.records.specs.Decode.{Lent}
 use Rattle.unite_lend.proofs.Grouping.{owned-small, own-ids, own-room, own-bound, own-long}
 use borrow.Author.Needs.{needs}

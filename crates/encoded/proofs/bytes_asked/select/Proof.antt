@@ -1,0 +1,79 @@
+use mathlib.Core.Path.{sym, _∙_}
+use borrow.Author.Tests.{lt-ltb, le-ltb}
+use Rattle.encoded.proofs.Looks.{select-long, select-over, select-short, select-bytes}
+use borrow.Author.Needs.{needs}
+use Rattle.encoded.proofs.bytes_asked.select.Statement.{statement}
+use Rattle.encoded.proofs.bytes_asked.select.Tie as tie
+
+returns : tie.Need-returns
+returns c = select-long _ _ _ _ _ (lt-ltb _ _ (c .if1 .taken))
+
+range-over-requires : tie.Need-range-over-requires
+range-over-requires c κs = search needs
+
+returns-2 : tie.Need-returns-2
+returns-2 c = select-over _ _ _ _ _ (le-ltb _ _ (c .before .before .if1 .left)) (sym (c .before .range-over .ensures) ∙ c .if2 .taken)
+
+has-tables-requires : tie.Need-has-tables-requires
+has-tables-requires c κs = search needs
+
+select-in-requires : tie.Need-select-in-requires
+select-in-requires c κs = (sym (c .before .before .before .before .before .before .has-tables .ensures) ∙ c .before .before .before .before .before .if3 .taken, sym (c .before .before .before .before .before .before .before .before .before .before .before .before .before .range-over .ensures) ∙ c .before .before .before .before .before .before .before .before .before .before .before .before .if2 .left)
+
+same-length : tie.Need-same-length
+same-length c = search needs
+
+same-length-2 : tie.Need-same-length-2
+same-length-2 c = search needs
+
+same-length-3 : tie.Need-same-length-3
+same-length-3 c = search needs
+
+same-length-4 : tie.Need-same-length-4
+same-length-4 c = search needs
+
+same-length-5 : tie.Need-same-length-5
+same-length-5 c = search needs
+
+returns-3 : tie.Need-returns-3
+returns-3 c = c .before .before .before .before .before .before .before .before .before .before .select-in .ensures ∙ select-bytes _ _ _ _ _ (le-ltb _ _ (c .before .before .before .before .before .before .before .before .before .before .before .before .before .before .before .before .before .before .before .before .before .before .before .before .before .if1 .left)) (sym (c .before .before .before .before .before .before .before .before .before .before .before .before .before .before .before .before .before .before .before .before .before .before .before .before .range-over .ensures) ∙ c .before .before .before .before .before .before .before .before .before .before .before .before .before .before .before .before .before .before .before .before .before .before .before .if2 .left) (sym (c .before .before .before .before .before .before .before .before .before .before .before .before .before .before .before .before .before .has-tables .ensures) ∙ c .before .before .before .before .before .before .before .before .before .before .before .before .before .before .before .before .if3 .taken)
+
+same-length-6 : tie.Need-same-length-6
+same-length-6 c = search needs
+
+same-length-7 : tie.Need-same-length-7
+same-length-7 c = search needs
+
+same-length-8 : tie.Need-same-length-8
+same-length-8 c = search needs
+
+same-length-9 : tie.Need-same-length-9
+same-length-9 c = search needs
+
+same-length-10 : tie.Need-same-length-10
+same-length-10 c = search needs
+
+returns-4 : tie.Need-returns-4
+returns-4 c = select-short _ _ _ _ _ (le-ltb _ _ (c .before .before .before .before .before .before .before .before .before .if1 .left)) (sym (c .before .before .before .before .before .before .before .before .range-over .ensures) ∙ c .before .before .before .before .before .before .before .if2 .left) (sym (c .before .has-tables .ensures) ∙ c .if3 .left)
+
+pub select-spec : {M : Type 1} → statement M
+select-spec =
+    tie.close
+    (tie.spec
+    returns
+    range-over-requires
+    returns-2
+    has-tables-requires
+    select-in-requires
+    same-length
+    same-length-2
+    same-length-3
+    same-length-4
+    same-length-5
+    returns-3
+    same-length-6
+    same-length-7
+    same-length-8
+    same-length-9
+    same-length-10
+    returns-4)

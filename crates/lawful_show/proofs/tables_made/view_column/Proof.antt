@@ -1,0 +1,26 @@
+use Prim.Native.Nat.{_-_}
+use mathlib.Core.Path.{_≡_}
+use lib.ListN.{length}
+use borrow.Author.Needs.{needs}
+use Rattle.lawful_show.proofs.tables_made.view_column.Statement.{statement}
+use Rattle.lawful_show.proofs.tables_made.view_column.Tie as tie
+
+abbrev Inv-loop : tie.InvT-loop
+Inv-loop t₀ from past col x row₀ t row = length t ≡ length t₀
+
+abbrev μ-loop : tie.MeasureT-loop
+μ-loop t₀ from past col x row₀ t row = past - row
+
+pub view-column-spec : {M : Type 1} → statement M
+view-column-spec =
+    tie.close
+    (tie.spec
+    Inv-loop
+    μ-loop
+    (λ c. search needs)  -- loop-holds
+    (λ c κs. search needs)  -- view-word-requires
+    (λ c. search needs)  -- add-row
+    (λ c. search needs)  -- loop-less
+    (λ c. search needs)  -- loop-again
+    (λ c. search needs)  -- same-length
+    (λ c. search needs))  -- returns

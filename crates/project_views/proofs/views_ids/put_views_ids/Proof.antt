@@ -1,0 +1,31 @@
+use denote.Ref.{now}
+use Prim.Native.Nat.{_-_, _/_}
+use native.Mathlib.Omega.{arith}
+use lib.ListN.{length}
+use borrow.Author.Needs.{needs}
+use Rattle.tables.proofs.Windows.{held-in}
+use Rattle.project_views.specs.Reach.{reachOf}
+use Rattle.project_views.proofs.Ids.{Listed, listed-none, listed-room, listed-more, listed-all, idsIn, views-ids}
+use Rattle.project_views.proofs.views_ids.put_views_ids.Statement.{statement}
+use Rattle.project_views.proofs.views_ids.put_views_ids.Tie as tie
+
+abbrev Inv-loop : tie.InvT-loop
+Inv-loop views views-overlap pool r out-ids₀ n first to₀ k₀ out-ids to k = Listed (idsIn views pool (reachOf pool r) views-overlap first n) n to₀ to out-ids₀ out-ids k
+
+abbrev μ-loop : tie.MeasureT-loop
+μ-loop views views-overlap pool r out-ids₀ n first to₀ k₀ out-ids to k = n - k
+
+pub put-views-ids-spec : {M : Type 1} → statement M
+put-views-ids-spec =
+    tie.close
+    (tie.spec
+    Inv-loop
+    μ-loop
+    (λ c κs. search needs)  -- held-requires
+    (λ c. let a = c .before .before .before .before .args in listed-none _ (views-ids (now (a .views)) (now (a .pool)) (a .w) (reachOf (now (a .pool)) (a .r)) (a .views-overlap) _ (c .held .ensures)) (c .before .before .before .before .pre))  -- loop-holds
+    (λ c κs. let h = c .before .loop-test .taken in let l = held-in (c .before .before .before .before .before .before .before .args .w) (length (now (c .before .before .before .before .before .before .before .args .views)) / 16) (c .before .before .before .held .result - 1) (omega (arith, c .before .before .before .held .ensures)) in ((omega arith, h), listed-room (c .before .before .loop .inv) h))  -- put-kept-id-at-requires
+    (λ c. search needs)  -- add-k
+    (λ c. search needs)  -- loop-less
+    (λ c. listed-more (c .before .before .before .before .before .loop .inv) (c .before .before .before .before .loop-test .taken) (c .before .before .put-kept-id-at .ensures))  -- loop-again
+    (λ c. search needs)  -- same-length
+    (λ c. let a = c .before .before .before .before .before .before .args in listed-all (c .before .loop .inv) _ (views-ids (now (a .views)) (now (a .pool)) (a .w) (reachOf (now (a .pool)) (a .r)) (a .views-overlap) _ (c .before .before .held .ensures)) (c .loop-test .left)))  -- returns

@@ -1,0 +1,42 @@
+use denote.Ref.{now}
+use Prim.Native.Nat.{_-_, _/_}
+use native.Mathlib.Omega.{arith}
+use lib.ListN.{length}
+use borrow.Author.Needs.{needs}
+use Rattle.tables.proofs.Windows.{held-in}
+use Rattle.records.specs.Fill.{sum, runFill}
+use Rattle.records.specs.Layout.{runsLaid, runsViewsLaid}
+use Rattle.emit.proofs.Laid.{Walk, Grown, walk-none, walk-more, walk-all, grown-none, grown-room, grown-more, grown-all, joined-all}
+use Rattle.project_views.specs.Reach.{reachOf}
+use Rattle.project_views.proofs.Runs.{pieceRows, pieceViews, piecePool, pieceIn, shown-fill, shown-past, shown-rows, shown-views, shown-bytes}
+use Rattle.project_views.proofs.views_laid.put_runs_shown.Statement.{statement}
+use Rattle.project_views.proofs.views_laid.put_runs_shown.Tie as tie
+
+abbrev Inv-loop : tie.InvT-loop
+Inv-loop runs views pool r out-runs₀ out-views₀ out-pool₀ n first to₀ k₀ out-runs out-views out-pool to k =
+    Walk (sum runFill) (pieceIn runs views pool (reachOf pool r) first) n to₀ to k
+    × Grown pieceRows (pieceIn runs views pool (reachOf pool r) first) n to₀ out-runs₀ out-runs k
+    × Grown pieceViews (pieceIn runs views pool (reachOf pool r) first) n to₀ out-views₀ out-views k
+    × Grown piecePool (pieceIn runs views pool (reachOf pool r) first) n to₀ out-pool₀ out-pool k
+
+abbrev μ-loop : tie.MeasureT-loop
+μ-loop runs views pool r out-runs₀ out-views₀ out-pool₀ n first to₀ k₀ out-runs out-views out-pool to k = n - k
+
+pub put-runs-shown-spec : {M : Type 1} → statement M
+unfolding runsLaid runsViewsLaid
+put-runs-shown-spec =
+    tie.close
+    (tie.spec
+    Inv-loop
+    μ-loop
+    (λ c κs. search needs)  -- held-requires
+    (λ c. let a = c .before .before .before .before .before .before .before .args in let p = c .before .before .before .before .before .before .before .pre in let f = shown-fill (now (a .runs)) (now (a .views)) (now (a .pool)) (a .w) (reachOf (now (a .pool)) (a .r)) _ (c .held .ensures) in (walk-none, grown-none (rw f (p .0)), grown-none (rw f (p .1 .0)), grown-none (rw f (p .1 .1))))  -- loop-holds
+    (λ c. omega (arith, held-in (c .before .before .before .before .before .before .before .before .before .args .w) (length (now (c .before .before .before .before .before .before .before .before .before .args .runs)) / 3) (c .before .loop .k) (omega arith)))  -- add-put-run-shown-at
+    (λ c κs. let i = c .before .before .before .before .loop .inv in let h = c .before .before .before .loop-test .taken in (held-in (c .before .before .before .before .before .before .before .before .before .before .before .before .args .w) (length (now (c .before .before .before .before .before .before .before .before .before .before .before .before .args .runs)) / 3) (c .before .before .before .before .loop .k) (omega arith), (grown-room (i .0) (i .1) h, (grown-room (i .0) (i .2) h, grown-room (i .0) (i .3) h))))  -- put-run-shown-at-requires
+    (λ c. search needs)  -- add-k
+    (λ c. search needs)  -- loop-less
+    (λ c. let i = c .before .before .before .before .before .before .before .before .before .before .before .loop .inv in let h = c .before .before .before .before .before .before .before .before .before .before .loop-test .taken in let e = c .before .before .before .before .before .before .put-run-shown-at .ensures in (walk-more (i .0) h (e .0), grown-more (i .0) (i .1) h (e .1 .0), grown-more (i .0) (i .2) h (e .1 .1 .0), grown-more (i .0) (i .3) h (e .1 .1 .1)))  -- loop-again
+    (λ c. search needs)  -- same-length
+    (λ c. search needs)  -- same-length-2
+    (λ c. search needs)  -- same-length-3
+    (λ c. let a = c .before .before .before .before .before .before .before .before .before .args in let i = c .before .loop .inv in let h = c .loop-test .left in let e = c .before .before .held .ensures in (shown-past (now (a .runs)) (now (a .views)) (now (a .pool)) (a .w) _ _ e (a .c) _ (walk-all (i .0) h), (shown-rows (now (a .runs)) (now (a .views)) (now (a .pool)) (a .w) _ _ e (a .c) _ _ (grown-all (i .0) (i .1) h), (shown-views (now (a .runs)) (now (a .views)) (now (a .pool)) (a .w) _ _ e (a .c) _ _ (grown-all (i .0) (i .2) h), shown-bytes (now (a .runs)) (now (a .views)) (now (a .pool)) (a .w) _ _ e (a .c) _ _ (joined-all (i .0) (i .3) h))))))  -- returns

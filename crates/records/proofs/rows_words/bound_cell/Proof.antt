@@ -1,0 +1,14 @@
+use borrow.Author.Needs.{needs}
+use Rattle.records.proofs.rows_words.bound_cell.Statement.{statement}
+use Rattle.records.proofs.rows_words.bound_cell.Tie as tie
+
+pub bound-cell-spec : {M : Type 1} → statement M
+bound-cell-spec =
+    tie.close
+    (tie.spec
+    (λ c. search needs)
+    (λ c. search needs)
+    (λ c. search needs)
+    (λ c. rw (c .enum-told .given .1))
+    (λ c. rw (c .before .x .given .1))
+    (λ c. rw (c .before .x2 .given .1)))
