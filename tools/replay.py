@@ -1,23 +1,29 @@
 #!/usr/bin/env python3
-# The list that crates/replay plays through the port's entry points under `rt ci`: calls with the original's answers.
+# The list that crates/replay and crates/replay_union play through the port's entry points under `rt ci`: calls with the original's answers.
 #   tools/replay.py --list    asks the oracle and writes tests/data/replay.txt: a call, then `= ` and its answer
-#   tools/replay.py           writes crates/replay/stdin and stdout from tests/data/replay.txt
-#   tools/replay.py --same    says whether both are as it would write them
+#   tools/replay.py           writes stdin and stdout of both programs from tests/data/replay.txt
+#   tools/replay.py --same    says whether they are as it would write them
 #   tools/replay.py --check   says so, and whether the list is as the oracle answers
 # It needs Python's standard library, and for --list and --check cargo, to ask the oracle.
 #
-# stdin is a row of parts, one for each call. A part is its length in two bytes, highest first, and so many bytes. In a call's part stand
-# the operation in one byte (its place in OPERATIONS) and the operation's parts: the call's words as bytes; ids joined are one
+# For crates/replay stdin is a row of parts, one for each call. A part is its length in two bytes, highest first, and so many bytes. In a call's part
+# stand the operation in one byte (its place in OPERATIONS) and the operation's parts: the call's words as bytes; ids joined are one
 # part. Ranges are parts of numbers of two bytes, six for each: of its start and of its end the kind (0 unbounded, 1 included,
 # 2 excluded), the place and the length of the key; the places are in one part before them, the bytes of the call's ranges one
 # after the other. A filter is a number of two bytes and the mask's eight. An absent word is a part of no bytes, and a missing own range
-# six numbers 0. A union's parts are its manifests one after the other, numbers of two bytes that say where each ends, the paths and the
-# numbers of theirs, the checkpoints, and the fresh ids.
-# stdout is the answers, one a line, as the line protocol has them. Calls of an operation that crates/replay does not name are left out.
+# six numbers 0. stdout is the answers, one a line, as the line protocol has them.
+#
+# For crates/replay_union stdin is a row of MessagePack's byte strings, one for each union. In it stand three more: the manifests one after
+# the other, the paths so, and a row of MessagePack's numbers. These are four lists: where each manifest ends, where each path ends,
+# the checkpoints and the fresh ids, two words each; before the lists stand five numbers, the place in the row at which each
+# list begins and the last one ends. stdout has for each union a line with the refusal's number and place, or with 0 and how many
+# bytes follow on the next.
+#
+# Each program names its operations in a line `// replays: read lookup ..`. Calls of an operation that neither names are left out.
 import os, re, subprocess, sys
 
 os.chdir(os.path.join(os.path.dirname(os.path.abspath(__file__)), '..'))
-LIST, STDIN, STDOUT = 'tests/data/replay.txt', 'crates/replay/stdin', 'crates/replay/stdout'
+LIST, PROGRAMS = 'tests/data/replay.txt', ['replay', 'replay_union']
 OPERATIONS = ['read', 'lookup', 'insert', 'merge_from_writer', 'merge_from_compactor', 'select', 'project', 'owned', 'clone', 'union']
 # All frames are read at once by a program whose buffer has 65,536 bytes: so many bytes are for each operation.
 SHARE = 6400
@@ -74,7 +80,7 @@ def read_list():
 
 HEAD = """\
 # Calls of the line protocol, each with the original's answer on the line after it, behind "= ". Played through the proved entry points by
-# crates/replay under `rt ci`, so that the port is held against the original where there is no Rust.
+# crates/replay and crates/replay_union under `rt ci`, so that the port is held against the original where there is no Rust.
 # How it was made: `tools/replay.py --list` had the generator (host/calls, seed %d) make 20,000 calls of each operation, asked the
 # oracle (host/oracle, the original's mod.rs), put aside what it skips, and took from every kind of answer in turn the shortest, the
 # longest and some between, %s bytes for each operation. The answers are the oracle's and no other's; `tools/replay.py --check`
@@ -146,15 +152,11 @@ def filtered(word):
     return b'' if word == '.' else int(word[0]).to_bytes(2, 'big') + bytes.fromhex(word[2:])
 
 
-def joined(parts):
-    """The bytes one after the other as one part, and a part of the numbers at which each ends."""
-    ends = [sum(map(len, parts[:i + 1])) for i in range(len(parts))]
-    return part(b''.join(parts)) + part(b''.join(end.to_bytes(2, 'big') for end in ends))
-
-
 def frame(call):
     words = call.split(' ')
     operation, words = words[0], words[1:]
+    if operation == 'union':
+        return union_frame(listed(words[0]), [source.split(':') for source in words[1:]])
     if operation == 'select':
         inside = part(raw(words[0])) + b''.join(ranges([words[1]]))
     elif operation == 'project':
@@ -162,25 +164,61 @@ def frame(call):
         inside = part(raw(words[0])) + args + whole + part(filtered(words[2])) + own
     elif operation == 'clone':
         inside = b''.join(part(raw(word)) for word in words[:3]) + part(b''.join(map(raw, words[3].split(','))))
-    elif operation == 'union':
-        manifests, paths, checkpoints = ([raw(source.split(':')[i]) for source in words[1:]] for i in range(3))
-        inside = joined(manifests) + joined(paths) + part(b''.join(checkpoints)) + part(b''.join(map(raw, words[0].split(','))))
     else:
         inside = b''.join(part(raw(word)) for word in words)
     return part(bytes([OPERATIONS.index(operation)]) + inside)
 
 
-# ---- what crates/replay is given
+# ---- frames of unions
 
-def played():
-    """The operations that crates/replay has: those that it names in a line `// replays: read lookup ..`."""
-    source = open('crates/replay/src/main.rt', encoding='utf-8').read()
+def string(data):
+    return b'\xc5' + part(data)
+
+
+def number(x):
+    return bytes([x]) if x < 0x80 else b'\xcd' + x.to_bytes(2, 'big') if x < 0x10000 else b'\xcf' + x.to_bytes(8, 'big')
+
+
+def ends(parts):
+    return [sum(map(len, parts[:i + 1])) for i in range(len(parts))]
+
+
+def halves(ids):
+    return [int(word[i:i + 16], 16) for word in ids for i in (0, 16)]
+
+
+def union_frame(fresh, sources):
+    manifests, paths = ([raw(source[i]) for source in sources] for i in range(2))
+    lists = [ends(manifests), ends(paths), halves(source[2] for source in sources), halves(fresh)]
+    places = [5 + sum(map(len, lists[:i])) for i in range(5)]
+    return string(string(b''.join(manifests)) + string(b''.join(paths)) + string(b''.join(map(number, sum(lists, places)))))
+
+
+# ---- what the programs are given
+
+def shown(call, answer):
+    """What a program writes for an answer of the line protocol."""
+    words = answer.split(' ')
+    if not call.startswith('union '):
+        return answer.encode() + b'\n'
+    if words[0] == 'refused':
+        return ('%s %s\n' % (words[1], words[3])).encode()
+    data = raw(words[1])
+    return b'0 %d\n' % len(data) + data + b'\n'
+
+
+def played(program):
+    """The operations that a program has: those that it names in a line `// replays: read lookup ..`."""
+    source = open('crates/%s/src/main.rt' % program, encoding='utf-8').read()
     return re.search(r'// replays: ([a-z_ ]+)', source).group(1).split()
 
 
 def files():
-    pairs = [pair for pair in read_list() if pair[0].split(' ')[0] in played()]
-    return b''.join(frame(call) for call, _ in pairs), ''.join(answer + '\n' for _, answer in pairs).encode()
+    """The path of each file, and what is to stand in it."""
+    for program in PROGRAMS:
+        pairs = [pair for pair in read_list() if pair[0].split(' ')[0] in played(program)]
+        yield 'crates/%s/stdin' % program, b''.join(frame(call) for call, _ in pairs)
+        yield 'crates/%s/stdout' % program, b''.join(shown(call, answer) for call, answer in pairs)
 
 
 def main(words):
@@ -189,14 +227,14 @@ def main(words):
         with open(LIST, 'w', encoding='ascii') as f:
             f.write(text)
     elif words == []:
-        for path, data in zip((STDIN, STDOUT), files()):
+        for path, data in files():
             with open(path, 'wb') as f:
                 f.write(data)
     elif words in (['--same'], ['--check']):
         pairs = read_list()
         if words == ['--check'] and asked([call for call, _ in pairs]) != [answer for _, answer in pairs]:
             sys.exit(LIST + ':1: not what the oracle answers')
-        for path, data in zip((STDIN, STDOUT), files()):
+        for path, data in files():
             with open(path, 'rb') as f:
                 if f.read() != data:
                     sys.exit(path + ':1: not what tools/replay.py makes of ' + LIST)

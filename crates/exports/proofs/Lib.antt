@@ -1,3 +1,2 @@
 pub mod Selects
 pub mod Projects
-pub mod Unions

@@ -1,50 +1,40 @@
 // The face for programs in other languages: encoded manifests, plain bytes and numbers in, numbers and encoded bytes out. All memory
 // is lent by the caller; what the working tables hold after a call is of no use.
-use borrows::Owned;
-use encoded::InsertedTo;
-use encoded_project::ProjectedTo;
-use ids::Uuid;
-use keys::Bound;
-use keys::Range;
-use manifest_write::Written;
-use project_ranges::Filter;
-use project_ranges::Global;
-use project_ranges::ProjectionConfig;
-use records::Fill;
+mod calls_made;
+
+use calls_made::config_arg;
+use calls_made::global_odd;
+use calls_made::inserted_answer;
+pub use calls_made::is_odd;
+pub use calls_made::looked_answer;
+use calls_made::owned_answer;
+use calls_made::projected_answer;
+pub use calls_made::range_arg;
+pub use calls_made::refused_answer;
+pub use calls_made::room_fill;
+pub use calls_made::selected_answer;
+use calls_made::uuid_arg;
+pub use calls_made::written_answer;
 use records::Refusal;
 use records::limits_01;
-use records::tell;
-use segments::Looked;
-use segments::Selected;
-use tables::ix;
 ghost use mathlib.Core.Path.{_≡_};
 ghost use mathlib.Core.List.{[]};
 ghost use lib.ListN.{length};
-ghost use Rattle.records.specs.Row.{boundOf};
 ghost use Rattle.records.specs.Limits.{limits01};
-ghost use Rattle.records.specs.Refusals.{refusal};
 ghost use Rattle.segments.specs.Lookup.{looked};
 ghost use Rattle.segments.specs.Select.{selected};
 ghost use Rattle.borrows.specs.Clone.{uuidsOf};
-ghost use Rattle.borrows.specs.Answer.{ownedSays};
-ghost use Rattle.unite_judge.specs.Judging.{workShort};
-ghost use Rattle.manifest_write.specs.Answer.{written};
 ghost use Rattle.manifest_rows.specs.Stored.{lent};
 ghost use Rattle.encoded.specs.Read.{readTo};
 ghost use Rattle.encoded.specs.Lookup.{lookupOf};
-ghost use Rattle.encoded.specs.Select.{selectOf};
-ghost use Rattle.encoded.specs.Insert.{inserted, insertTo};
+ghost use Rattle.encoded.specs.Insert.{insertTo};
 ghost use Rattle.encoded_merge.specs.Merge.{mergeTo};
 ghost use Rattle.encoded_merge.specs.declared.Side.the-variants.{Writer, Compactor};
 ghost use Rattle.encoded_borrows.specs.Owned.{ownedTo};
 ghost use Rattle.encoded_borrows.specs.Clone.{cloneTo};
-ghost use Rattle.encoded_project.specs.Project.{projected};
-ghost use Rattle.encoded_union.specs.Union.{unionTo};
 ghost use Rattle.exports.specs.Replies.{told, wroteReply, insertReply, projectReply};
-ghost use Rattle.exports.specs.Arguments.{roomFill, rangeArg, oddOf, selectBy, globalArg, filterArg, configArg, oddGlobal, projectBy};
+ghost use Rattle.exports.specs.Arguments.{roomFill, selectBy, projectBy};
 ghost use Rattle.exports.specs.Borrows.{uuidArg, ownedReply};
-
-// ---- what goes in and out
 
 // What a call answers: 0 and the operation's numbers, or a refusal's number and place; the rest 0.
 #[repr(C)]
@@ -53,207 +43,6 @@ pub struct Answer {
     pub first: usize,
     pub second: usize,
     pub third: usize,
-}
-
-// The six numbers of a room: what a result may fill, in segments, views, runs, borrows, ids and bytes.
-fn room_fill(r: &[u64; 6]) -> Fill
-    ensures { λ f. ⌜ f ≡ roomFill (now (r .entry)) ⌝ }
-{
-    Fill {
-        segments: ix(r[0]),
-        views: ix(r[1]),
-        runs: ix(r[2]),
-        borrows: ix(r[3]),
-        ids: ix(r[4]),
-        bytes: ix(r[5]),
-    }
-}
-
-// A bound: its kind, 0 unbounded, 1 included, 2 excluded, and where its key stands in the bytes lent with it.
-fn bound_arg(kind: u64, at: usize, len: usize) -> Bound
-    ensures { λ r. ⌜ r ≡ boundOf kind at len ⌝ }
-{
-    match kind {
-        0 => Bound::Unbounded,
-        1 => Bound::Included(at, len),
-        _ => Bound::Excluded(at, len),
-    }
-}
-
-// The three numbers of the start, then those of the end.
-// inner
-pub fn range_arg(r: &[u64; 6]) -> Range
-    ensures { λ a. ⌜ a ≡ rangeArg (now (r .entry)) ⌝ }
-{
-    Range {
-        start: bound_arg(r[0], ix(r[1]), ix(r[2])),
-        end: bound_arg(r[3], ix(r[4]), ix(r[5])),
-    }
-}
-
-// Whether a bound has a kind that stands for nothing.
-// inner
-pub fn is_odd(r: &[u64; 6]) -> bool
-    ensures { λ a. ⌜ a ≡ oddOf (now (r .entry)) ⌝ }
-{
-    if 2 < r[0] {
-        return true;
-    }
-    2 < r[3]
-}
-
-// The global range, where there is one.
-fn global_arg(flag: u64, r: &[u64; 6]) -> Global
-    ensures { λ a. ⌜ a ≡ globalArg flag (now (r .entry)) ⌝ }
-{
-    if flag == 0 {
-        return Global::Unset;
-    }
-    Global::Set(range_arg(r))
-}
-
-// The filter, where there is one.
-fn filter_arg(flag: u64, keeps: u64, mask: u64) -> Filter
-    ensures { λ a. ⌜ a ≡ filterArg flag keeps mask ⌝ }
-{
-    if flag == 0 {
-        return Filter::All;
-    }
-    Filter::Only(keeps != 0, mask)
-}
-
-// What a projection is asked for: whether there is a global range, whether there is a filter, its flag and its mask, and whether
-// there is a table of own ranges.
-fn config_arg(f: &[u64; 5], r: &[u64; 6]) -> ProjectionConfig
-    ensures { λ a. ⌜ a ≡ configArg (now (f .entry)) (now (r .entry)) ⌝ }
-{
-    let global_range = global_arg(f[0], r);
-    let segment_filter = filter_arg(f[1], f[2], f[3]);
-    ProjectionConfig {
-        global_range,
-        segment_filter,
-        segment_projection: f[4] != 0,
-    }
-}
-
-// Whether there is a global range with a kind that stands for nothing.
-fn global_odd(f: &[u64; 5], r: &[u64; 6]) -> bool
-    ensures { λ a. ⌜ a ≡ oddGlobal (now (f .entry)) (now (r .entry)) ⌝ }
-{
-    if f[0] == 0 {
-        return false;
-    }
-    is_odd(r)
-}
-
-// inner
-pub fn refused_answer(x: Refusal) -> Answer
-    ensures { λ r. ⌜ r ≡ told (refusal x) ⌝ }
-{
-    let t = tell(x);
-    Answer {
-        number: t.number,
-        first: t.place,
-        second: 0,
-        third: 0,
-    }
-}
-
-// inner
-pub fn written_answer(x: Written) -> Answer
-    ensures { λ r. ⌜ r ≡ told (written x) ⌝ }
-{
-    match x {
-        Written::Done(n) => Answer {
-            number: 0,
-            first: n,
-            second: 0,
-            third: 0,
-        },
-        Written::Refused(r) => refused_answer(r),
-    }
-}
-
-// inner
-pub fn looked_answer(x: Looked) -> Answer
-    ensures { λ r. ⌜ r ≡ told (looked x) ⌝ }
-{
-    match x {
-        Looked::Unsegmented => Answer {
-            number: 0,
-            first: 0,
-            second: 0,
-            third: 0,
-        },
-        Looked::Segment(i) => Answer {
-            number: 0,
-            first: 1,
-            second: i,
-            third: 0,
-        },
-        Looked::Absent => Answer {
-            number: 0,
-            first: 2,
-            second: 0,
-            third: 0,
-        },
-        Looked::Refused(r) => refused_answer(r),
-    }
-}
-
-// inner
-pub fn selected_answer(x: Selected) -> Answer
-    ensures { λ r. ⌜ r ≡ told (selected x) ⌝ }
-{
-    match x {
-        Selected::Unsegmented => Answer {
-            number: 0,
-            first: 0,
-            second: 0,
-            third: 0,
-        },
-        Selected::Window(first, past) => Answer {
-            number: 0,
-            first: 1,
-            second: first,
-            third: past,
-        },
-        Selected::Refused(r) => refused_answer(r),
-    }
-}
-
-fn inserted_answer(x: InsertedTo) -> Answer
-    ensures { λ r. ⌜ r ≡ told (inserted x) ⌝ }
-{
-    match x {
-        InsertedTo::Found(i) => Answer {
-            number: 0,
-            first: 0,
-            second: i,
-            third: 0,
-        },
-        InsertedTo::Entered(i, n) => Answer {
-            number: 0,
-            first: 1,
-            second: i,
-            third: n,
-        },
-        InsertedTo::Refused(r) => refused_answer(r),
-    }
-}
-
-fn projected_answer(x: ProjectedTo) -> Answer
-    ensures { λ r. ⌜ r ≡ told (projected x) ⌝ }
-{
-    match x {
-        ProjectedTo::Done(names, n) => Answer {
-            number: 0,
-            first: names,
-            second: n,
-            third: 0,
-        },
-        ProjectedTo::Refused(r) => refused_answer(r),
-    }
 }
 
 // ---- the entry points
@@ -458,29 +247,6 @@ pub extern "C" fn manifest_merge_from_compactor(
     written_answer(w)
 }
 
-// ---- owned ids and clone
-
-// An id's two words, the high one first.
-fn uuid_arg(c: &[u64; 2]) -> Uuid
-    ensures { λ u. ⌜ u ≡ uuidArg (now (c .entry)) ⌝ }
-{
-    Uuid(c[0], c[1])
-}
-
-fn owned_answer(x: Owned) -> Answer
-    ensures { λ r. ⌜ r ≡ told (ownedSays x) ⌝ }
-{
-    match x {
-        Owned::Done(n) => Answer {
-            number: 0,
-            first: n,
-            second: 0,
-            third: 0,
-        },
-        Owned::Refused(r) => refused_answer(r),
-    }
-}
-
 // The ids that a manifest uses and borrows from no one: 0, and how many ids stand at the front of `out`, two words each.
 #[no_mangle]
 pub extern "C" fn manifest_owned(
@@ -606,82 +372,4 @@ pub extern "C" fn manifest_project(
         out,
     );
     projected_answer(x)
-}
-
-// The union of up to eight manifests: 0, and how many bytes of `out` it fills. Source k is the k-th part of `s`, its path the k-th part of
-// `paths` and its checkpoint the k-th pair of `checkpoints`; `ends` and `path_ends` say where each part ends. A fresh UUID for each borrow of
-// the union stands in `fresh`, two words each. The tables whose names begin with `all` have room for eight manifests, their pool for the
-// bytes of `paths` too, `lent_fresh` for the fresh UUIDs and twice a manifest's borrows, those whose names begin with `to` for the union. For
-// eight manifests within the limits `prefixes` holds the segments' prefixes, `owned` the ids of one's views, `groups` and `sets` the borrows.
-#[no_mangle]
-pub extern "C" fn manifest_union(
-    s: &[u8],
-    ends: &[u64],
-    paths: &[u8],
-    path_ends: &[u64],
-    checkpoints: &[u64],
-    fresh: &[u64],
-    room: &[u64; 6],
-    segments: &mut [u64],
-    views: &mut [u64],
-    runs: &mut [u64],
-    borrows: &mut [u64],
-    ids: &mut [u64],
-    all_segments: &mut [u64],
-    all_views: &mut [u64],
-    all_runs: &mut [u64],
-    all_borrows: &mut [u64],
-    all_ids: &mut [u64],
-    all_pool: &mut [u8],
-    lent_fresh: &mut [u64],
-    prefixes: &mut [u64],
-    owned: &mut [u64],
-    groups: &mut [u64],
-    sets: &mut [u64],
-    to_segments: &mut [u64],
-    to_views: &mut [u64],
-    to_runs: &mut [u64],
-    to_borrows: &mut [u64],
-    to_ids: &mut [u64],
-    to_pool: &mut [u8],
-    out: &mut [u8],
-) -> Answer
-    ensures { λ r. ⌜ record { answer = r; out = now (out .exit) } ≡ wroteReply (unionTo limits01 (now (s .entry)) (now (ends .entry)) (now (paths .entry)) (now («path_ends» .entry)) (now (checkpoints .entry)) (now (fresh .entry)) (roomFill (now (room .entry))) (lent (now (segments .entry)) (now (views .entry)) (now (runs .entry)) (now (borrows .entry)) (now (ids .entry)) []) (lent (now («all_segments» .entry)) (now («all_views» .entry)) (now («all_runs» .entry)) (now («all_borrows» .entry)) (now («all_ids» .entry)) (now («all_pool» .entry))) (length (now («lent_fresh» .entry))) (workShort limits01 (length (now (prefixes .entry))) (length (now (owned .entry))) (length (now (groups .entry))) (length (now (sets .entry)))) (lent (now («to_segments» .entry)) (now («to_views» .entry)) (now («to_runs» .entry)) (now («to_borrows» .entry)) (now («to_ids» .entry)) (now («to_pool» .entry))) (now (out .entry))) ⌝ }
-{
-    let lim = limits_01();
-    let most = room_fill(room);
-    let w = encoded_unite::union(
-        lim,
-        s,
-        ends,
-        paths,
-        path_ends,
-        checkpoints,
-        fresh,
-        most,
-        segments,
-        views,
-        runs,
-        borrows,
-        ids,
-        all_segments,
-        all_views,
-        all_runs,
-        all_borrows,
-        all_ids,
-        all_pool,
-        lent_fresh,
-        prefixes,
-        owned,
-        groups,
-        sets,
-        to_segments,
-        to_views,
-        to_runs,
-        to_borrows,
-        to_ids,
-        to_pool,
-        out,
-    );
-    written_answer(w)
 }

@@ -8,10 +8,12 @@ mod keys;
 mod law;
 mod merge;
 mod pack;
+mod parse;
 mod project;
 mod records;
 mod segments;
 mod union;
+mod unpack;
 mod words;
 
 pub use words::answer;

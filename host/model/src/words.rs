@@ -5,6 +5,7 @@ use crate::keys::Range;
 use crate::law::{lawful, room_for, within, INPUT, LIMITS, LONG, SHORT, SOURCES};
 use crate::merge;
 use crate::pack;
+use crate::parse::parse;
 use crate::project::{project, Filter, Projection};
 use crate::records::{Bytes16, Manifest, Segment, Size};
 use crate::segments::{insert, lookup, select, Found, Inserted, Selected};
@@ -118,7 +119,7 @@ fn parse_room(numbers: &str) -> Option<Size> {
 }
 
 fn parse_range(word: &str) -> Option<Range> {
-    pack::parse(&hex(word)?).ok()?.range().ok()
+    parse(&hex(word)?).ok()?.range().ok()
 }
 
 fn parse_filter(word: &str) -> Option<Filter> {
@@ -156,7 +157,7 @@ fn parse_source(word: &str) -> Option<Given> {
 
 /// "Reading: 18, 19, 1."
 fn read(bytes: &[u8]) -> Outcome<Manifest> {
-    let manifest = pack::parse(bytes)?.manifest()?;
+    let manifest = parse(bytes)?.manifest()?;
     lawful(&manifest)?;
     Ok(manifest)
 }
@@ -215,7 +216,7 @@ fn select_call(manifest: &[u8], range: &Range) -> Outcome<String> {
 fn project_call(bytes: &[u8], how: &Projection, room: &Size) -> Outcome<String> {
     within(bytes, INPUT)?;
     how.global.iter().try_for_each(within_range)?;
-    let manifest = pack::parse(bytes)?.manifest()?;
+    let manifest = parse(bytes)?.manifest()?;
     // "Missing: unbounded; excess: unread; all others count for refusal 2."
     let own = how.own.iter().flatten().take(1 + manifest.segments.len());
     own.flatten().try_for_each(within_range)?;

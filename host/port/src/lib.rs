@@ -1,21 +1,26 @@
-//! The port behind the line protocol: the proved functions of `crates/exports`, called on byte slices.
+//! The port behind the line protocol: the proved functions of `crates/exports` and `crates/exports_union`, called on byte slices.
 //! What a call is lent is filled with a pattern, and looked at afterwards: see lent.rs.
 
 #[cfg(test)]
 mod faults;
 mod given;
+mod host;
 mod lent;
+#[cfg(test)]
+mod malformed;
 mod operations;
 mod pages;
 #[cfg(feature = "program")]
 mod program;
+mod promises;
 mod range;
+mod slices;
 mod words;
 
 pub use operations::OPERATIONS;
 pub use pages::use_pages;
 
-use operations::Host;
+use host::Host;
 use std::cell::RefCell;
 use std::panic::{self, AssertUnwindSafe};
 
