@@ -1,7 +1,7 @@
 -- Which answer insert gives, by its tests. Assumes nothing.
 use Prim.Native.Nat.{ℕ}
 use mathlib.Core.Path.{_≡_, refl, sym, ap, _∙_}
-use mathlib.Core.Bool.{Bool, true, false, not, true≢false, _&&_}
+use mathlib.Core.Bool.{Bool, true, false, not, true≢false, _&&_, _||_}
 use mathlib.Core.List.{List}
 use native.Mathlib.Omega.{arith}
 use lib.ListN.{length}
@@ -41,7 +41,7 @@ use Rattle.manifest_write.specs.declared.Written.the-variants as write
 use Rattle.manifest_read.specs.Answer.{workRoom}
 use Rattle.encoded.specs.Encoded.{refused as unread, encodedOf, longOf}
 use Rattle.encoded.specs.InTables.{rowsIn}
-use Rattle.encoded.specs.Insert.{Outcome, refusedTo, wrote, enteredTo, insertedIn, insertTo}
+use Rattle.encoded.specs.Insert.{Outcome, refusedTo, wrote, enteredTo, laidTo, insertedIn, bothFit, insertTo}
 use Rattle.encoded.specs.declared.InsertedTo.the-variants.{Found, Entered, Refused}
 use Rattle.encoded.specs.declared.Rows.the-variants.{Are}
 
@@ -140,25 +140,54 @@ module _ (o : Lent) (out : List ℕ) (full : Bool) where
         rw (t, b, g)
     narrow-put l (refused r) k d t = let z : _≡_ {A = ℕ} 0 1 = cc in absurd (omega arith)
 
-module _ (lim : Limits) (room : Fill) (m : Manifest) (p : List ℕ) (o : Lent) (w : fits (lim .fill) (roomOf o) ≡ true) (out : List ℕ) (r : Inserted) (l : Lent) (q : record { answer = r; out = l } ≡ laidEntry o (insertedOf lim (roomOf o) m p)) where
+module _ (lim : Limits) (room : Fill) (m : Manifest) (p : List ℕ) (o : Lent) (out : List ℕ) (r : Inserted) (l : Lent) (q : record { answer = r; out = l } ≡ laidEntry o (insertedOf lim (roomOf o) m p)) (w : fits (lim .fill) (roomOf o) ≡ true) where
   told : (x : Inserted) → r ≡ x → x ≡ laidEntry o (insertedOf lim (roomOf o) m p) .answer
   told x h = sym h ∙ ap (λ y. y .answer) q
 
   back : (y : Outcome) → y ≡ enteredTo out (narrow (noRoom lim room (plus (manifestFill m) (newFill (length p)))) (insertedOf lim (roomOf o) m p)) → y ≡ enteredTo out (insertedOf lim room m p)
   back y e = e ∙ ap (enteredTo out) (sym (narrowed lim room (roomOf o) m p w))
 
-  pub within-found : (i : ℕ) → r ≡ lay.Found i → record { answer = Found i; out = out } ≡ enteredTo out (insertedOf lim room m p)
+  within-found : (i : ℕ) → r ≡ lay.Found i → record { answer = Found i; out = out } ≡ enteredTo out (insertedOf lim room m p)
   within-found i h = back (record { answer = Found i; out = out }) (narrow-found o out (noRoom lim room (plus (manifestFill m) (newFill (length p)))) i (insertedOf lim (roomOf o) m p) (told (lay.Found i) h))
 
-  pub within-refused : (x : Refusal) → r ≡ lay.Refused x → refusedTo out x ≡ enteredTo out (insertedOf lim room m p)
+  within-refused : (x : Refusal) → r ≡ lay.Refused x → refusedTo out x ≡ enteredTo out (insertedOf lim room m p)
   within-refused x h = back (refusedTo out x) (narrow-refused o out (noRoom lim room (plus (manifestFill m) (newFill (length p)))) x (insertedOf lim (roomOf o) m p) (told (lay.Refused x) h))
 
   module _ (i : ℕ) (row : ManifestRow) (h : r ≡ lay.Entered i row) (b : Bool) (k : b ≡ noRoom lim room (plus (manifestFill m) (newFill (length p)))) where
-    pub within-full : b ≡ true → refusedTo out NoRoom ≡ enteredTo out (insertedOf lim room m p)
+    within-full : b ≡ true → refusedTo out NoRoom ≡ enteredTo out (insertedOf lim room m p)
     within-full t = back (refusedTo out NoRoom) (narrow-full o out (noRoom lim room (plus (manifestFill m) (newFill (length p)))) i row (insertedOf lim (roomOf o) m p) (told (lay.Entered i row) h) (sym k ∙ t))
 
-    pub within-put : b ≡ false → wrote i (putOf (manifestBytes (manifestIn l row)) out) ≡ enteredTo out (insertedOf lim room m p)
+    within-put : b ≡ false → wrote i (putOf (manifestBytes (manifestIn l row)) out) ≡ enteredTo out (insertedOf lim room m p)
     within-put t = back (wrote i (putOf (manifestBytes (manifestIn l row)) out)) (narrow-put o out (noRoom lim room (plus (manifestFill m) (newFill (length p)))) i row l (insertedOf lim (roomOf o) m p) (told (lay.Entered i row) h) (ap (λ y. y .out) q) (sym k ∙ t))
+
+  laid-entered : (i : ℕ) (row : ManifestRow) → r ≡ lay.Entered i row → (b : Bool) → b ≡ noRoom lim room (plus (manifestFill m) (newFill (length p)))
+      → pick b (refusedTo out NoRoom) (wrote i (putOf (manifestBytes (manifestIn l row)) out)) ≡ enteredTo out (insertedOf lim room m p)
+  laid-entered i row h true k = within-full i row h true k refl
+  laid-entered i row h false k = within-put i row h false k refl
+
+  pub laid-means : laidTo lim room (plus (manifestFill m) (newFill (length p))) out l r ≡ enteredTo out (insertedOf lim room m p)
+  laid-means = go r refl
+    where
+      go : (x : Inserted) → r ≡ x → laidTo lim room (plus (manifestFill m) (newFill (length p))) out l x ≡ enteredTo out (insertedOf lim room m p)
+      go (lay.Found i) h = within-found i h
+      go (lay.Entered i row) h = laid-entered i row h (noRoom lim room (plus (manifestFill m) (newFill (length p)))) refl
+      go (lay.Refused x) h = within-refused x h
+
+-- ---- what came of the insertion
+
+module _ (lim : Limits) (room f : Fill) (out : List ℕ) (l : Lent) (a : Inserted) where
+  pub laid-found : (i : ℕ) → a ≡ lay.Found i → record { answer = Found i; out = out } ≡ laidTo lim room f out l a
+  laid-found i h = rw h
+
+  pub laid-refused : (x : Refusal) → a ≡ lay.Refused x → refusedTo out x ≡ laidTo lim room f out l a
+  laid-refused x h = rw h
+
+  module _ (i : ℕ) (row : ManifestRow) (h : a ≡ lay.Entered i row) (b : Bool) (k : b ≡ noRoom lim room f) where
+    pub laid-full : b ≡ true → refusedTo out NoRoom ≡ laidTo lim room f out l a
+    laid-full t = rw (h, sym k ∙ t)
+
+    pub laid-put : b ≡ false → wrote i (putOf (manifestBytes (manifestIn l row)) out) ≡ laidTo lim room f out l a
+    laid-put t = rw (h, sym k ∙ t)
 
 -- ---- rows, and what was read
 
@@ -175,6 +204,34 @@ module _ (lim : Limits) (room : Fill) (p out : List ℕ) where
   unfolding insertedIn
   inserted-refused x = refl
 
+-- ---- room in both kinds of tables
+
+module _ (f w o : Fill) where
+  pub first-holds : (r : Bool) → fits f w ≡ true → r ≡ fits f o → r ≡ bothFit f w o
+  unfolding bothFit
+  first-holds r h k = rw h k
+
+  pub first-fails : fits f w ≡ false → false ≡ bothFit f w o
+  unfolding bothFit
+  first-fails h = rw h
+
+  pub both-fit : bothFit f w o ≡ true → (fits f w ≡ true) × (fits f o ≡ true)
+  unfolding bothFit
+  both-fit e = go (fits f w) (fits f o) e
+    where
+      go : (x y : Bool) → (x && y) ≡ true → (x ≡ true) × (y ≡ true)
+      go true y e = (refl, e)
+      go false y e = absurd (true≢false (sym e))
+
+  pub unless-both : {A : Type 0} (a z : A) → bothFit f w o ≡ false → a ≡ pick (not (fits f w) || not (fits f o)) a z
+  unfolding bothFit
+  unless-both {A} a z e = go (fits f w) (fits f o) e
+    where
+      go : (x y : Bool) → (x && y) ≡ false → a ≡ pick (not x || not y) a z
+      go true true e = absurd (true≢false e)
+      go true false e = refl
+      go false y e = refl
+
 -- ---- the order of refusals
 
 module _ (lim : Limits) (s p : List ℕ) (room : Fill) (w o : Lent) (out : List ℕ) where
@@ -188,15 +245,10 @@ module _ (lim : Limits) (s p : List ℕ) (room : Fill) (w o : Lent) (out : List 
     insert-over k = rw (h, k)
 
     module _ (k : prefixOver lim p ≡ false) where
-      pub insert-short : fits (lim .fill) (workRoom lim w) ≡ false → refusedTo out NoRoom ≡ insertTo lim s p room w o out
+      pub insert-short : bothFit (lim .fill) (workRoom lim w) (roomOf o) ≡ false → refusedTo out NoRoom ≡ insertTo lim s p room w o out
       unfolding insertTo
-      insert-short f = rw (h, k, f)
+      insert-short f = rw (h, k) (unless-both (lim .fill) (workRoom lim w) (roomOf o) (refusedTo out NoRoom) (insertedIn lim room p out (encodedOf lim s)) f)
 
-      module _ (f : fits (lim .fill) (workRoom lim w) ≡ true) where
-        pub insert-small : fits (lim .fill) (roomOf o) ≡ false → refusedTo out NoRoom ≡ insertTo lim s p room w o out
-        unfolding insertTo
-        insert-small g = rw (h, k, f, g)
-
-        pub insert-bytes : fits (lim .fill) (roomOf o) ≡ true → insertedIn lim room p out (encodedOf lim s) ≡ insertTo lim s p room w o out
-        unfolding insertTo
-        insert-bytes g = rw (h, k, f, g)
+      pub insert-bytes : bothFit (lim .fill) (workRoom lim w) (roomOf o) ≡ true → insertedIn lim room p out (encodedOf lim s) ≡ insertTo lim s p room w o out
+      unfolding insertTo
+      insert-bytes f = let g = both-fit (lim .fill) (workRoom lim w) (roomOf o) f in rw (h, k, g .0, g .1)

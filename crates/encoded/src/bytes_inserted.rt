@@ -20,24 +20,18 @@ use records::Refusal;
 ghost use mathlib.Core.Path.{_≡_};
 ghost use mathlib.Core.Bool.{true};
 ghost use mathlib.Core.List.{[]};
-ghost use Prim.Native.Nat.{_≤_};
+ghost use Prim.Native.Nat.{_/_, _≤_};
 ghost use lib.ListN.{length};
 ghost use Rattle.records.specs.Decode.{manifestIn};
 ghost use Rattle.records.specs.Fill.{plus, fits, manifestFill};
 ghost use Rattle.measure.specs.Measure.{l1Of};
-ghost use Rattle.lawful.specs.Judge.{judgedOf};
-ghost use Rattle.lawful.specs.declared.Judged.the-variants.{Lawful};
 ghost use Rattle.copy.specs.Copy.{roomOf, noRoom};
-ghost use Rattle.segments.specs.Insert.{insertedOf};
 ghost use Rattle.insert.specs.Insert.{newFill};
 ghost use Rattle.manifest_write.specs.Bytes.{manifestBytes};
 ghost use Rattle.manifest_write.specs.Answer.{putOf};
 ghost use Rattle.manifest_rows.specs.Stored.{lent};
-ghost use Rattle.manifest_read.specs.Answer.{workRoom};
-ghost use Rattle.encoded.specs.Encoded.{encodedOf};
 ghost use Rattle.encoded.specs.InTables.{rowsIn};
-ghost use Rattle.encoded.specs.declared.Rows.the-variants.{Are};
-ghost use Rattle.encoded.specs.Insert.{wrote, enteredTo, insertedIn, insertTo};
+ghost use Rattle.encoded.specs.Insert.{wrote, laidTo, insertedIn, bothFit, insertTo};
 
 // Whether there is no room for a manifest that keeps L1 with an empty segment more, of a prefix of `len` bytes.
 fn lacks_room(
@@ -81,8 +75,8 @@ fn write_entered(
     }
 }
 
-// Inserts into the manifest of lawful rows. The result tables have room for any manifest within L1.
-fn insert_within(
+// Tells what came of the insertion, and writes the manifest that the prefix entered, where it has room.
+fn write_inserted(
     lim: Limits,
     segments: &[u64],
     views: &[u64],
@@ -91,42 +85,24 @@ fn insert_within(
     ids: &[u64],
     pool: &[u8],
     m: ManifestRow,
-    prefix: &[u8],
+    len: usize,
     room: Fill,
-    out_segments: &mut [u64],
-    out_views: &mut [u64],
-    out_runs: &mut [u64],
-    out_borrows: &mut [u64],
-    out_ids: &mut [u64],
-    out_pool: &mut [u8],
+    laid: Inserted,
+    out_segments: &[u64],
+    out_views: &[u64],
+    out_runs: &[u64],
+    out_borrows: &[u64],
+    out_ids: &[u64],
+    out_pool: &[u8],
     out: &mut [u8],
 ) -> InsertedTo
-    requires { ⌜ judgedOf lim (lent (now segments) (now views) (now runs) (now borrows) (now ids) (now pool)) m ≡ Lawful ⌝ }
-    requires { ⌜ length (now prefix) ≤ lim .prefix ⌝ }
-    requires { ⌜ fits (lim .fill) (roomOf (lent (now «out_segments») (now «out_views») (now «out_runs») (now «out_borrows») (now «out_ids») (now «out_pool»))) ≡ true ⌝ }
-    ensures { λ r. ⌜ record { answer = r; out = now (out .exit) } ≡ enteredTo (now (out .entry)) (insertedOf lim room (manifestIn (lent (now (segments .entry)) (now (views .entry)) (now (runs .entry)) (now (borrows .entry)) (now (ids .entry)) (now (pool .entry))) m) (now (prefix .entry))) ⌝ }
+    requires { ⌜ l1Of lim (lent (now segments) (now views) (now runs) (now borrows) (now ids) (now pool)) m ≡ true ⌝ }
+    ensures { λ r. ⌜ record { answer = r; out = now (out .exit) } ≡ laidTo lim room (plus (manifestFill (manifestIn (lent (now (segments .entry)) (now (views .entry)) (now (runs .entry)) (now (borrows .entry)) (now (ids .entry)) (now (pool .entry))) m)) (newFill len)) (now (out .entry)) (lent (now («out_segments» .entry)) (now («out_views» .entry)) (now («out_runs» .entry)) (now («out_borrows» .entry)) (now («out_ids» .entry)) (now («out_pool» .entry))) laid ⌝ }
 {
-    match insert_judged(
-        lim,
-        segments,
-        views,
-        runs,
-        borrows,
-        ids,
-        pool,
-        m,
-        prefix,
-        out_segments,
-        out_views,
-        out_runs,
-        out_borrows,
-        out_ids,
-        out_pool,
-    ) {
+    match laid {
         Inserted::Found(i) => InsertedTo::Found(i),
         Inserted::Refused(x) => InsertedTo::Refused(x),
         Inserted::Entered(i, row) => {
-            let len = prefix.len();
             if lacks_room(lim, segments, views, runs, borrows, ids, pool, m, len, room) {
                 return InsertedTo::Refused(Refusal::NoRoom);
             }
@@ -145,7 +121,7 @@ fn insert_within(
     }
 }
 
-// Inserts into the manifest of rows that are lawful.
+// Inserts into the manifest of rows that are lawful. The result tables have room for any manifest within L1.
 fn insert_rows(
     lim: Limits,
     segments: &[u64],
@@ -154,7 +130,7 @@ fn insert_rows(
     borrows: &[u64],
     ids: &[u64],
     pool: &[u8],
-    m: ManifestRow,
+    rows: Rows,
     prefix: &[u8],
     room: Fill,
     out_segments: &mut [u64],
@@ -167,103 +143,86 @@ fn insert_rows(
 ) -> InsertedTo
     requires { ⌜ length (now prefix) ≤ lim .prefix ⌝ }
     requires { ⌜ fits (lim .fill) (roomOf (lent (now «out_segments») (now «out_views») (now «out_runs») (now «out_borrows») (now «out_ids») (now «out_pool»))) ≡ true ⌝ }
-    ensures { λ r. ⌜ record { answer = r; out = now (out .exit) } ≡ insertedIn lim room (now (prefix .entry)) (now (out .entry)) (rowsIn lim (lent (now (segments .entry)) (now (views .entry)) (now (runs .entry)) (now (borrows .entry)) (now (ids .entry)) (now (pool .entry))) (Are m)) ⌝ }
+    ensures { λ r. ⌜ record { answer = r; out = now (out .exit) } ≡ insertedIn lim room (now (prefix .entry)) (now (out .entry)) (rowsIn lim (lent (now (segments .entry)) (now (views .entry)) (now (runs .entry)) (now (borrows .entry)) (now (ids .entry)) (now (pool .entry))) rows) ⌝ }
 {
-    match lawful(lim, segments, views, runs, borrows, ids, pool, m) {
-        Judged::Breaks(rule) => InsertedTo::Refused(Refusal::Unlawful(rule)),
-        Judged::Lawful => insert_within(
-            lim,
-            segments,
-            views,
-            runs,
-            borrows,
-            ids,
-            pool,
-            m,
-            prefix,
-            room,
-            out_segments,
-            out_views,
-            out_runs,
-            out_borrows,
-            out_ids,
-            out_pool,
-            out,
-        ),
-    }
-}
-
-// Reads the rows and inserts into their manifest.
-fn insert_in(
-    lim: Limits,
-    s: &[u8],
-    prefix: &[u8],
-    room: Fill,
-    segments: &mut [u64],
-    views: &mut [u64],
-    runs: &mut [u64],
-    borrows: &mut [u64],
-    ids: &mut [u64],
-    out_segments: &mut [u64],
-    out_views: &mut [u64],
-    out_runs: &mut [u64],
-    out_borrows: &mut [u64],
-    out_ids: &mut [u64],
-    out_pool: &mut [u8],
-    out: &mut [u8],
-) -> InsertedTo
-    requires { ⌜ fits (lim .fill) (workRoom lim (lent (now segments) (now views) (now runs) (now borrows) (now ids) (now s))) ≡ true ⌝ }
-    requires { ⌜ length (now prefix) ≤ lim .prefix ⌝ }
-    requires { ⌜ fits (lim .fill) (roomOf (lent (now «out_segments») (now «out_views») (now «out_runs») (now «out_borrows») (now «out_ids») (now «out_pool»))) ≡ true ⌝ }
-    ensures { λ r. ⌜ record { answer = r; out = now (out .exit) } ≡ insertedIn lim room (now (prefix .entry)) (now (out .entry)) (encodedOf lim (now (s .entry))) ⌝ }
-{
-    match rows_of(lim, s, segments, views, runs, borrows, ids) {
-        Rows::Are(m) => insert_rows(
-            lim,
-            segments,
-            views,
-            runs,
-            borrows,
-            ids,
-            s,
-            m,
-            prefix,
-            room,
-            out_segments,
-            out_views,
-            out_runs,
-            out_borrows,
-            out_ids,
-            out_pool,
-            out,
-        ),
+    match rows {
         Rows::Refused(x) => InsertedTo::Refused(x),
+        Rows::Are(m) => match lawful(lim, segments, views, runs, borrows, ids, pool, m) {
+            Judged::Breaks(rule) => InsertedTo::Refused(Refusal::Unlawful(rule)),
+            Judged::Lawful => {
+                let laid = insert_judged(
+                    lim,
+                    segments,
+                    views,
+                    runs,
+                    borrows,
+                    ids,
+                    pool,
+                    m,
+                    prefix,
+                    out_segments,
+                    out_views,
+                    out_runs,
+                    out_borrows,
+                    out_ids,
+                    out_pool,
+                );
+                write_inserted(
+                    lim,
+                    segments,
+                    views,
+                    runs,
+                    borrows,
+                    ids,
+                    pool,
+                    m,
+                    prefix.len(),
+                    room,
+                    laid,
+                    out_segments,
+                    out_views,
+                    out_runs,
+                    out_borrows,
+                    out_ids,
+                    out_pool,
+                    out,
+                )
+            }
+        },
     }
 }
 
-// Whether the result tables have room for any manifest within L1.
+// Whether working tables and result tables of so many words have room for any manifest within L1.
 // inner
 pub fn has_results(
     lim: Limits,
-    out_segments: &[u64],
-    out_views: &[u64],
-    out_runs: &[u64],
-    out_borrows: &[u64],
-    out_ids: &[u64],
-    out_pool: &[u8],
+    segments: usize,
+    views: usize,
+    runs: usize,
+    borrows: usize,
+    ids: usize,
+    out_segments: usize,
+    out_views: usize,
+    out_runs: usize,
+    out_borrows: usize,
+    out_ids: usize,
+    out_pool: usize,
 ) -> bool
-    ensures { λ r. ⌜ r ≡ fits (lim .fill) (roomOf (lent (now («out_segments» .entry)) (now («out_views» .entry)) (now («out_runs» .entry)) (now («out_borrows» .entry)) (now («out_ids» .entry)) (now («out_pool» .entry)))) ⌝ }
+    ensures { λ r. ⌜ r ≡ bothFit (lim .fill) (record { segments = segments / 12; views = views / 16; runs = runs / 3; borrows = borrows / 9; ids = ids / 2; bytes = lim .fill .bytes }) (record { segments = «out_segments» / 12; views = «out_views» / 16; runs = «out_runs» / 3; borrows = «out_borrows» / 9; ids = «out_ids» / 2; bytes = «out_pool» }) ⌝ }
 {
-    let most = lim.fill;
-    let room = Fill {
-        segments: out_segments.len() / 12,
-        views: out_views.len() / 16,
-        runs: out_runs.len() / 3,
-        borrows: out_borrows.len() / 9,
-        ids: out_ids.len() / 2,
-        bytes: out_pool.len(),
-    };
-    fits_in(most, room)
+    if has_tables(lim, segments, views, runs, borrows, ids) {
+        let most = lim.fill;
+        let room = Fill {
+            segments: out_segments / 12,
+            views: out_views / 16,
+            runs: out_runs / 3,
+            borrows: out_borrows / 9,
+            ids: out_ids / 2,
+            bytes: out_pool,
+        };
+        return fits_in(most, room);
+    }
+    false
 }
 
 // The prefix's segment: found where it is held, else entered with an empty tree, and the manifest written. What the result tables
@@ -294,35 +253,40 @@ pub fn insert(
     if lim.prefix < prefix.len() {
         return InsertedTo::Refused(Refusal::OverLimit);
     }
-    if has_tables(lim, segments, views, runs, borrows, ids) {
-        if has_results(
+    if has_results(
+        lim,
+        segments.len(),
+        views.len(),
+        runs.len(),
+        borrows.len(),
+        ids.len(),
+        out_segments.len(),
+        out_views.len(),
+        out_runs.len(),
+        out_borrows.len(),
+        out_ids.len(),
+        out_pool.len(),
+    ) {
+        let rows = rows_of(lim, s, segments, views, runs, borrows, ids);
+        return insert_rows(
             lim,
+            segments,
+            views,
+            runs,
+            borrows,
+            ids,
+            s,
+            rows,
+            prefix,
+            room,
             out_segments,
             out_views,
             out_runs,
             out_borrows,
             out_ids,
             out_pool,
-        ) {
-            return insert_in(
-                lim,
-                s,
-                prefix,
-                room,
-                segments,
-                views,
-                runs,
-                borrows,
-                ids,
-                out_segments,
-                out_views,
-                out_runs,
-                out_borrows,
-                out_ids,
-                out_pool,
-                out,
-            );
-        }
+            out,
+        );
     }
     InsertedTo::Refused(Refusal::NoRoom)
 }

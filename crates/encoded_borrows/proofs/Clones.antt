@@ -47,8 +47,9 @@ use Rattle.encoded.specs.Encoded.{refused as unread, encodedOf, longOf}
 use Rattle.encoded.specs.InTables.{rowsIn}
 use Rattle.encoded.specs.Read.{refusedWith}
 use Rattle.encoded.specs.declared.Rows.the-variants.{Are}
-use Rattle.encoded.proofs.Inserts.{full-too}
-use Rattle.encoded_borrows.specs.Clone.{freshPut, clonedWith, clonedPut, clonedOn, pathOver, cloneTo}
+use Rattle.encoded.specs.Insert.{bothFit}
+use Rattle.encoded.proofs.Inserts.{full-too, both-fit, unless-both}
+use Rattle.encoded_borrows.specs.Clone.{freshPut, laidPut, clonedWith, clonedPut, clonedOn, pathOver, cloneTo}
 use Rattle.encoded_borrows.proofs.Lengths.{clone-long}
 
 -- ---- how long the encoded form is, by a count of it
@@ -124,7 +125,7 @@ module _ (lim : Limits) (room : Fill) (m : Manifest) (path : List ℕ) (cp : Uui
   answered : (x : ClonedAs) → r ≡ x → x ≡ clonedGiven lim m path cp (uuidsOf ws) o .answer
   answered x h = sym h ∙ ap (λ y. y .answer) q
 
-  pub with-refused : (x : Refusal) → r ≡ lay.Refused x → (n : ℕ) → n ≡ length (m .borrows) → (n < lim .fill .borrows → n < length ws / 2) → refusedWith out x ≡ clonedWith few lim room out path cp (uuidsOf ws) m
+  with-refused : (x : Refusal) → r ≡ lay.Refused x → (n : ℕ) → n ≡ length (m .borrows) → (n < lim .fill .borrows → n < length ws / 2) → refusedWith out x ≡ clonedWith few lim room out path cp (uuidsOf ws) m
   unfolding clonedGiven clonedWith
   with-refused x h n e k =
       by-refused o out (manifestRow clone) (laidOver o (layout clone)) (refuses15 (m .borrows)) (noRoom lim (roomOf o) (manifestFill clone)) (refuses16 (clone .borrows) (uuidsOf ws)) (noRoom lim room (manifestFill clone)) x _
@@ -142,13 +143,38 @@ module _ (lim : Limits) (room : Fill) (m : Manifest) (path : List ℕ) (cp : Uui
       narrow : noRoom lim room (manifestFill clone) ≡ b
       narrow = ap (noRoom lim room) (clone-fill m path cp (uuidsOf ws)) ∙ sym k
 
-      pub with-full : b ≡ true → refusedWith out NoRoom ≡ clonedWith few lim room out path cp (uuidsOf ws) m
+      with-full : b ≡ true → refusedWith out NoRoom ≡ clonedWith few lim room out path cp (uuidsOf ws) m
       unfolding clonedWith
       with-full t = rw (given .0, narrow ∙ t)
 
-      pub with-put : b ≡ false → freshPut few (manifestBytes (manifestIn l row)) out ≡ clonedWith few lim room out path cp (uuidsOf ws) m
+      with-put : b ≡ false → freshPut few (manifestBytes (manifestIn l row)) out ≡ clonedWith few lim room out path cp (uuidsOf ws) m
       unfolding clonedWith
       with-put t = rw (is-clone, given .0, narrow ∙ t)
+
+  laid-done : (row : ManifestRow) → r ≡ lay.Done row → (b : Bool) → b ≡ noRoom lim room (plus (manifestFill m) (lentFill path (ownedOf m)))
+      → pick b (refusedWith out NoRoom) (freshPut few (manifestBytes (manifestIn l row)) out) ≡ clonedWith few lim room out path cp (uuidsOf ws) m
+  laid-done row h true k = with-full row h true k refl
+  laid-done row h false k = with-put row h false k refl
+
+  pub laid-means : (n : ℕ) → n ≡ length (m .borrows) → (n < lim .fill .borrows → n < length ws / 2) → laidPut few lim room (plus (manifestFill m) (lentFill path (ownedOf m))) out l r ≡ clonedWith few lim room out path cp (uuidsOf ws) m
+  laid-means n e k = go r refl
+    where
+      go : (x : ClonedAs) → r ≡ x → laidPut few lim room (plus (manifestFill m) (lentFill path (ownedOf m))) out l x ≡ clonedWith few lim room out path cp (uuidsOf ws) m
+      go (lay.Done row) h = laid-done row h (noRoom lim room (plus (manifestFill m) (lentFill path (ownedOf m)))) refl
+      go (lay.Refused x) h = with-refused x h n e k
+
+-- ---- what came of laying
+
+module _ (few : Bool) (lim : Limits) (room f : Fill) (out : List ℕ) (l : Lent) (a : ClonedAs) where
+  pub laid-refused : (x : Refusal) → a ≡ lay.Refused x → refusedWith out x ≡ laidPut few lim room f out l a
+  laid-refused x h = rw h
+
+  module _ (row : ManifestRow) (h : a ≡ lay.Done row) (b : Bool) (k : b ≡ noRoom lim room f) where
+    pub laid-full : b ≡ true → refusedWith out NoRoom ≡ laidPut few lim room f out l a
+    laid-full t = rw (h, sym k ∙ t)
+
+    pub laid-put : b ≡ false → freshPut few (manifestBytes (manifestIn l row)) out ≡ laidPut few lim room f out l a
+    laid-put t = rw (h, sym k ∙ t)
 
 -- ---- too few fresh UUIDs, or enough
 
@@ -164,13 +190,13 @@ module _ (lim : Limits) (room : Fill) (out path : List ℕ) (cp : Uuid) (l : Len
   counted : length (clonedOf from path cp (uuidsOf ws) .borrows) ≡ heldOf (row .«external_dbs») (length (l .borrows) / 9) + 1
   counted = clone-count from path cp (uuidsOf ws) ∙ ap (λ (k : ℕ). k + 1) (sym (held-is l row))
 
-  pub put-enough : heldOf (row .«external_dbs») (length (l .borrows) / 9) < length ws / 2 → clonedWith false lim room out path cp (uuidsOf ws) from ≡ clonedPut lim room out path cp (uuidsOf ws) from
+  pub put-enough : (n : ℕ) → n ≡ heldOf (row .«external_dbs») (length (l .borrows) / 9) → n < length ws / 2 → clonedWith false lim room out path cp (uuidsOf ws) from ≡ clonedPut lim room out path cp (uuidsOf ws) from
   unfolding clonedPut
-  put-enough h = let e : refuses16 (clonedOf from path cp (uuidsOf ws) .borrows) (uuidsOf ws) ≡ false = rw (uuids-long ws) (le-ltb (length ws / 2) (length (clonedOf from path cp (uuidsOf ws) .borrows)) (omega (arith, counted))) in rw e
+  put-enough n q h = let e : refuses16 (clonedOf from path cp (uuidsOf ws) .borrows) (uuidsOf ws) ≡ false = rw (uuids-long ws) (le-ltb (length ws / 2) (length (clonedOf from path cp (uuidsOf ws) .borrows)) (omega (arith, counted, q, h))) in rw e
 
-  pub put-few : (names : List Uuid) → length ws / 2 ≤ heldOf (row .«external_dbs») (length (l .borrows) / 9) → clonedWith true lim room out path cp names from ≡ clonedPut lim room out path cp (uuidsOf ws) from
+  pub put-few : (names : List Uuid) (n : ℕ) → n ≡ heldOf (row .«external_dbs») (length (l .borrows) / 9) → length ws / 2 ≤ n → clonedWith true lim room out path cp names from ≡ clonedPut lim room out path cp (uuidsOf ws) from
   unfolding clonedPut
-  put-few names h = let e : refuses16 (clonedOf from path cp (uuidsOf ws) .borrows) (uuidsOf ws) ≡ true = rw (uuids-long ws) (lt-ltb (length ws / 2) (length (clonedOf from path cp (uuidsOf ws) .borrows)) (omega (arith, counted))) in any-names names (uuidsOf ws) ∙ rw e
+  put-few names n q h = let e : refuses16 (clonedOf from path cp (uuidsOf ws) .borrows) (uuidsOf ws) ≡ true = rw (uuids-long ws) (lt-ltb (length ws / 2) (length (clonedOf from path cp (uuidsOf ws) .borrows)) (omega (arith, counted, q, h))) in any-names names (uuidsOf ws) ∙ rw e
 
 -- ---- rows, and what was read
 
@@ -200,15 +226,10 @@ module _ (lim : Limits) (s path : List ℕ) (cp : Uuid) (fresh : List Uuid) (roo
     clone-over k = rw (h, k)
 
     module _ (k : pathOver lim path ≡ false) where
-      pub clone-short : fits (lim .fill) (workRoom lim w) ≡ false → refusedWith out NoRoom ≡ cloneTo lim s path cp fresh room w o out
+      pub clone-short : bothFit (lim .fill) (workRoom lim w) (roomOf o) ≡ false → refusedWith out NoRoom ≡ cloneTo lim s path cp fresh room w o out
       unfolding cloneTo
-      clone-short f = rw (h, k, f)
+      clone-short f = rw (h, k) (unless-both (lim .fill) (workRoom lim w) (roomOf o) (refusedWith out NoRoom) (clonedOn lim room out path cp fresh (encodedOf lim s)) f)
 
-      module _ (f : fits (lim .fill) (workRoom lim w) ≡ true) where
-        pub clone-small : fits (lim .fill) (roomOf o) ≡ false → refusedWith out NoRoom ≡ cloneTo lim s path cp fresh room w o out
-        unfolding cloneTo
-        clone-small g = rw (h, k, f, g)
-
-        pub clone-bytes : fits (lim .fill) (roomOf o) ≡ true → clonedOn lim room out path cp fresh (encodedOf lim s) ≡ cloneTo lim s path cp fresh room w o out
-        unfolding cloneTo
-        clone-bytes g = rw (h, k, f, g)
+      pub clone-bytes : bothFit (lim .fill) (workRoom lim w) (roomOf o) ≡ true → clonedOn lim room out path cp fresh (encodedOf lim s) ≡ cloneTo lim s path cp fresh room w o out
+      unfolding cloneTo
+      clone-bytes f = let g = both-fit (lim .fill) (workRoom lim w) (roomOf o) f in rw (h, k, g .0, g .1)

@@ -12,10 +12,9 @@ use records::Fill;
 use records::Limits;
 use records::ManifestRow;
 use records::Refusal;
-use tables::held;
 ghost use mathlib.Core.Path.{_≡_};
 ghost use mathlib.Core.Bool.{true};
-ghost use Prim.Native.Nat.{_/_, _≤_, _<_};
+ghost use Prim.Native.Nat.{_/_, _<_};
 ghost use lib.Dec.{ltb};
 ghost use lib.ListN.{length};
 ghost use Rattle.tables.specs.Window.{heldOf};
@@ -29,7 +28,7 @@ ghost use Rattle.borrows.specs.Clone.{uuidsOf};
 ghost use Rattle.borrows.specs.Bare.{lentFill};
 ghost use Rattle.manifest_write.specs.Bytes.{manifestBytes};
 ghost use Rattle.manifest_rows.specs.Stored.{lent};
-ghost use Rattle.encoded_borrows.specs.Clone.{freshPut, clonedWith, clonedPut};
+ghost use Rattle.encoded_borrows.specs.Clone.{freshPut, laidPut, clonedWith};
 
 // Whether there is no room for the clone of a lawful manifest.
 fn lacks_room(
@@ -104,9 +103,8 @@ fn write_clone(
     write_judged(segments, views, runs, borrows, ids, pool, m, out)
 }
 
-// Clones the manifest of lawful rows with the UUIDs `names`, which suffice for any clone within L1. The result tables have room for
-// any manifest within L1.
-fn clone_with(
+// Tells what came of laying the clone, and writes it where it has room.
+fn write_laid(
     lim: Limits,
     segments: &[u64],
     views: &[u64],
@@ -116,42 +114,21 @@ fn clone_with(
     pool: &[u8],
     m: ManifestRow,
     path: &[u8],
-    checkpoint: Uuid,
-    names: &[u64],
     few: bool,
     room: Fill,
-    out_segments: &mut [u64],
-    out_views: &mut [u64],
-    out_runs: &mut [u64],
-    out_borrows: &mut [u64],
-    out_ids: &mut [u64],
-    out_pool: &mut [u8],
+    laid: ClonedAs,
+    out_segments: &[u64],
+    out_views: &[u64],
+    out_runs: &[u64],
+    out_borrows: &[u64],
+    out_ids: &[u64],
+    out_pool: &[u8],
     out: &mut [u8],
 ) -> Written
     requires { ⌜ judgedOf lim (lent (now segments) (now views) (now runs) (now borrows) (now ids) (now pool)) m ≡ Lawful ⌝ }
-    requires { ⌜ (heldOf (m .«external_dbs») (length (now borrows) / 9) < lim .fill .borrows → heldOf (m .«external_dbs») (length (now borrows) / 9) < length (now names) / 2) ⌝ }
-    requires { ⌜ fits (lim .fill) (roomOf (lent (now «out_segments») (now «out_views») (now «out_runs») (now «out_borrows») (now «out_ids») (now «out_pool»))) ≡ true ⌝ }
-    ensures { λ r. ⌜ record { answer = r; out = now (out .exit) } ≡ clonedWith few lim room (now (out .entry)) (now (path .entry)) checkpoint (uuidsOf (now (names .entry))) (manifestIn (lent (now (segments .entry)) (now (views .entry)) (now (runs .entry)) (now (borrows .entry)) (now (ids .entry)) (now (pool .entry))) m) ⌝ }
+    ensures { λ r. ⌜ record { answer = r; out = now (out .exit) } ≡ laidPut few lim room (plus (manifestFill (manifestIn (lent (now (segments .entry)) (now (views .entry)) (now (runs .entry)) (now (borrows .entry)) (now (ids .entry)) (now (pool .entry))) m)) (lentFill (now (path .entry)) (ownedOf (manifestIn (lent (now (segments .entry)) (now (views .entry)) (now (runs .entry)) (now (borrows .entry)) (now (ids .entry)) (now (pool .entry))) m)))) (now (out .entry)) (lent (now («out_segments» .entry)) (now («out_views» .entry)) (now («out_runs» .entry)) (now («out_borrows» .entry)) (now («out_ids» .entry)) (now («out_pool» .entry))) laid ⌝ }
 {
-    match cloned_judged(
-        lim,
-        segments,
-        views,
-        runs,
-        borrows,
-        ids,
-        pool,
-        m,
-        path,
-        checkpoint,
-        names,
-        out_segments,
-        out_views,
-        out_runs,
-        out_borrows,
-        out_ids,
-        out_pool,
-    ) {
+    match laid {
         ClonedAs::Refused(x) => Written::Refused(x),
         ClonedAs::Done(row) => {
             if lacks_room(
@@ -183,9 +160,9 @@ fn clone_with(
     }
 }
 
-// Clones the manifest of lawful rows. Where the fresh UUIDs are too few, the clone is laid with others in their place, to see how long it
-// is: the words of the borrows are more than enough, and any UUID is as long as any other.
-pub fn clone_within(
+// Clones the manifest of lawful rows with the UUIDs `names`, which suffice for any clone within L1. The result tables have room for
+// any manifest within L1.
+pub fn clone_with(
     lim: Limits,
     segments: &[u64],
     views: &[u64],
@@ -196,7 +173,8 @@ pub fn clone_within(
     m: ManifestRow,
     path: &[u8],
     checkpoint: Uuid,
-    fresh: &[u64],
+    names: &[u64],
+    few: bool,
     room: Fill,
     out_segments: &mut [u64],
     out_views: &mut [u64],
@@ -207,37 +185,11 @@ pub fn clone_within(
     out: &mut [u8],
 ) -> Written
     requires { ⌜ judgedOf lim (lent (now segments) (now views) (now runs) (now borrows) (now ids) (now pool)) m ≡ Lawful ⌝ }
-    requires { ⌜ lim .fill .borrows ≤ length (now borrows) / 9 ⌝ }
+    requires { ⌜ (heldOf (m .«external_dbs») (length (now borrows) / 9) < lim .fill .borrows → heldOf (m .«external_dbs») (length (now borrows) / 9) < length (now names) / 2) ⌝ }
     requires { ⌜ fits (lim .fill) (roomOf (lent (now «out_segments») (now «out_views») (now «out_runs») (now «out_borrows») (now «out_ids») (now «out_pool»))) ≡ true ⌝ }
-    ensures { λ r. ⌜ record { answer = r; out = now (out .exit) } ≡ clonedPut lim room (now (out .entry)) (now (path .entry)) checkpoint (uuidsOf (now (fresh .entry))) (manifestIn (lent (now (segments .entry)) (now (views .entry)) (now (runs .entry)) (now (borrows .entry)) (now (ids .entry)) (now (pool .entry))) m) ⌝ }
+    ensures { λ r. ⌜ record { answer = r; out = now (out .exit) } ≡ clonedWith few lim room (now (out .entry)) (now (path .entry)) checkpoint (uuidsOf (now (names .entry))) (manifestIn (lent (now (segments .entry)) (now (views .entry)) (now (runs .entry)) (now (borrows .entry)) (now (ids .entry)) (now (pool .entry))) m) ⌝ }
 {
-    let w = m.external_dbs;
-    let n = held(w, borrows.len() / 9);
-    if n < fresh.len() / 2 {
-        return clone_with(
-            lim,
-            segments,
-            views,
-            runs,
-            borrows,
-            ids,
-            pool,
-            m,
-            path,
-            checkpoint,
-            fresh,
-            false,
-            room,
-            out_segments,
-            out_views,
-            out_runs,
-            out_borrows,
-            out_ids,
-            out_pool,
-            out,
-        );
-    }
-    clone_with(
+    let laid = cloned_judged(
         lim,
         segments,
         views,
@@ -248,9 +200,27 @@ pub fn clone_within(
         m,
         path,
         checkpoint,
+        names,
+        out_segments,
+        out_views,
+        out_runs,
+        out_borrows,
+        out_ids,
+        out_pool,
+    );
+    write_laid(
+        lim,
+        segments,
+        views,
+        runs,
         borrows,
-        true,
+        ids,
+        pool,
+        m,
+        path,
+        few,
         room,
+        laid,
         out_segments,
         out_views,
         out_runs,

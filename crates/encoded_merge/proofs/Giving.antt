@@ -1,13 +1,10 @@
 -- The merged list, written; and the part of the result tables that a room leaves. Assumes nothing.
-use Prim.Native.Nat.{ℕ, _*_, _≤_, _<_}
+use Prim.Native.Nat.{ℕ, _*_}
 use mathlib.Core.Path.{_≡_, refl, sym, ap, _∙_}
 use mathlib.Core.Bool.{Bool, true, false, not}
 use mathlib.Core.List.{List}
 use native.Mathlib.Omega.{arith}
-use lib.Dec.{ltb}
-use native.Mathlib.Decide.{decLt}
 use lib.ListN.{length, drop}
-use borrow.Author.Tests.{lt-ltb, le-ltb}
 use Rattle.keys.specs.Pick.{pick}
 use Rattle.keys.proofs.Says.{says-and, says-same}
 use Rattle.tables.specs.Layout.{over, joined}
@@ -32,6 +29,7 @@ use Rattle.merge.specs.declared.Merged.the-variants.{Done, Refused}
 use Rattle.merge.proofs.Standing.{standing}
 use Rattle.manifest_write.specs.Bytes.{segmentsBytes}
 use Rattle.manifest_write.specs.Answer.{Outcome, putOf}
+use Rattle.encoded.specs.Least.{lesser}
 use Rattle.encoded.specs.Read.{refusedWith}
 use Rattle.encoded_merge.specs.Merge.{listTo, writerTo, compactorTo, mergedTo}
 use Rattle.encoded_merge.specs.Steps.{givenBy}
@@ -98,62 +96,37 @@ module _ (side : Side) (lim : Limits) (ws cs : List Segment) (out : List ℕ) (o
 
 -- ---- the part of the result tables that the room and L1 leave
 
-record Least (a b l : ℕ) : Type 0 where
-  pub first : l ≤ a
-  pub second : l ≤ b
-  pub greatest : (x : ℕ) → x ≤ a → x ≤ b → x ≤ l
-
--- the least of two numbers, as the code finds it
-abbrev pub leastOf : ℕ → ℕ → ℕ
-leastOf a b = pick (ltb b a) b a
-
-pub least-second : (a b : ℕ) → b < a → b ≡ leastOf a b
-least-second a b h = rw (lt-ltb b a h)
-
-pub least-first : (a b : ℕ) → a ≤ b → a ≡ leastOf a b
-least-first a b h = rw (le-ltb b a h)
-
-least : (a b : ℕ) → Least a b (leastOf a b)
-least a b = elim (decLt b a) [ yes l ↦ rw (lt-ltb b a l) (record { first = omega arith; second = omega arith; greatest = λ x h k. k }) | no n ↦ rw (le-ltb b a (omega arith)) (record { first = omega arith; second = omega arith; greatest = λ x h k. h }) ]
-
-pub least-under : (a b r : ℕ) → r ≡ leastOf a b → r ≤ a
-least-under a b r e = rw e (least a b .first)
-
 module _ (lim : Limits) (room : Fill) (o : LentList)
-    (hs : length (o .segments) ≡ leastOf (lim .fill .segments) (room .segments) * 12) (hv : length (o .views) ≡ leastOf (lim .fill .views) (room .views) * 16)
-    (hr : length (o .runs) ≡ leastOf (lim .fill .runs) (room .runs) * 3) (hp : length (o .pool) ≡ leastOf (lim .fill .bytes) (room .bytes)) where
+    (hs : length (o .segments) ≡ lesser (lim .fill .segments) (room .segments) * 12) (hv : length (o .views) ≡ lesser (lim .fill .views) (room .views) * 16)
+    (hr : length (o .runs) ≡ lesser (lim .fill .runs) (room .runs) * 3) (hp : length (o .pool) ≡ lesser (lim .fill .bytes) (room .bytes)) where
   -- a segment list has room there exactly where it has room
   part-room : (ss : List Segment) → noRoom lim (listRoom o) (sum segmentFill ss) ≡ noRoom lim room (sum segmentFill ss)
   unfolding noRoom
   part-room ss =
       let f = sum segmentFill ss in
       let none : (f .borrows ≡ 0) × (f .ids ≡ 0) = rw (segments-fill ss) (refl, refl) in
-      let a = least (lim .fill .segments) (room .segments) in
-      let b = least (lim .fill .views) (room .views) in
-      let c = least (lim .fill .runs) (room .runs) in
-      let d = least (lim .fill .bytes) (room .bytes) in
       ap not
       (says-same (
         λ w. (
           w .0,
           record {
-            segments = omega (arith, w .1 .segments, hs, a .second);
-            views = omega (arith, w .1 .views, hv, b .second);
-            runs = omega (arith, w .1 .runs, hr, c .second);
+            segments = omega (arith, w .1 .segments, hs);
+            views = omega (arith, w .1 .views, hv);
+            runs = omega (arith, w .1 .runs, hr);
             borrows = omega (arith, none .0);
             ids = omega (arith, none .1);
-            bytes = omega (arith, w .1 .bytes, hp, d .second);
+            bytes = omega (arith, w .1 .bytes, hp);
           },
         ),
         λ w. (
           w .0,
           record {
-            segments = omega (arith, hs, a .greatest (f .segments) (w .0 .segments) (w .1 .segments));
-            views = omega (arith, hv, b .greatest (f .views) (w .0 .views) (w .1 .views));
-            runs = omega (arith, hr, c .greatest (f .runs) (w .0 .runs) (w .1 .runs));
+            segments = omega (arith, w .0 .segments, w .1 .segments, hs);
+            views = omega (arith, w .0 .views, w .1 .views, hv);
+            runs = omega (arith, w .0 .runs, w .1 .runs, hr);
             borrows = omega (arith, none .0);
             ids = omega (arith, none .1);
-            bytes = omega (arith, hp, d .greatest (f .bytes) (w .0 .bytes) (w .1 .bytes));
+            bytes = omega (arith, w .0 .bytes, w .1 .bytes, hp);
           },
         ),
       )

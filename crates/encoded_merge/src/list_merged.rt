@@ -1,5 +1,6 @@
 // The merged list of segments, as a manifest in the tables of the result.
 use crate::Side;
+use encoded::least;
 use manifest_write::Written;
 use manifest_write::write_segments;
 use merge::Merged;
@@ -11,8 +12,6 @@ use records::ManifestRow;
 ghost use mathlib.Core.Path.{_≡_};
 ghost use Prim.Native.Nat.{_*_, _≤_};
 ghost use lib.ListN.{length};
-ghost use lib.Dec.{ltb};
-ghost use Rattle.keys.specs.Pick.{pick};
 ghost use Rattle.records.specs.Decode.{manifestIn};
 ghost use Rattle.lawful.specs.Judge.{judgedOf};
 ghost use Rattle.lawful.specs.declared.Judged.the-variants.{Lawful};
@@ -115,16 +114,6 @@ fn merge_into(
         Merged::Done(w) => write_segments(out_segments, out_views, out_runs, out_pool, w, out),
         Merged::Refused(x) => Written::Refused(x),
     }
-}
-
-// The least of two numbers.
-fn least(a: usize, b: usize) -> usize
-    ensures { λ r. ⌜ r ≡ pick (ltb b a) b a ⌝ }
-{
-    if b < a {
-        return b;
-    }
-    a
 }
 
 // Merges into the part of the result tables that the room and L1 leave. They have room for any list within L1.

@@ -22,7 +22,7 @@ use Rattle.project_ranges.specs.declared.Global.the-variants as global
 use Rattle.project_ranges.specs.declared.ProjectionConfig.{ProjectionConfig}
 use Rattle.encoded_project.specs.Project.{configFor}
 
-either-false : (a b : Bool) → (a || b) ≡ false → (a ≡ false) × (b ≡ false)
+pub either-false : (a b : Bool) → (a || b) ≡ false → (a ≡ false) × (b ≡ false)
 either-false true b e = let z : _≡_ {A = ℕ} 0 1 = cc in absurd (omega arith)
 either-false false b e = (refl, e)
 

@@ -1,13 +1,16 @@
 -- Reading behind the arguments: what stands there, and the order of refusals. Assumes nothing.
-use Prim.Native.Nat.{ℕ, _+_}
+use Prim.Native.Nat.{ℕ, _+_, _*_, _/_, _≤_}
 use mathlib.Core.Path.{_≡_, refl, sym, ap, _∙_}
-use mathlib.Core.Bool.{Bool, true, false}
-use mathlib.Core.List.{List, _++_}
+use mathlib.Core.Bool.{Bool, true, false, _&&_, _||_}
+use mathlib.Core.List.{List, [], _++_}
 use native.Mathlib.Omega.{arith}
+use borrow.Author.Tests.{ltb-false}
+use lib.Dec.{ltb}
 use lib.ListN.{length, take, drop}
 use lib.Seq.{take-at}
 use Rattle.keys.specs.Pick.{pick}
 use Rattle.keys.proofs.Says.{true-says}
+use Rattle.tables.specs.Layout.{write}
 use Rattle.records.specs.Model.{Manifest}
 use Rattle.records.specs.Fill.{plus, bytes, fits}
 use Rattle.records.specs.Layout.{manifestRowAt, layoutAt}
@@ -37,8 +40,9 @@ use Rattle.project_ranges.specs.declared.ProjectionConfig.{ProjectionConfig}
 use Rattle.encoded.specs.Encoded.{Encoded, holds, on, byLaw as law, byRecord as record-by, byWhole as whole-by, encodedOf, longOf}
 use Rattle.standing.proofs.Reading.{readInto, read-is, Accepted, accepted-decode, accepted-judged, read-refused, read-accepted}
 use Rattle.encoded_project.specs.Project.{Outcome, refusedTo, configFor, overGot, overWhole, overIn, projectedTo, shortAny, projectTo}
-use Rattle.encoded_project.specs.Steps.{keptAt, readWith}
-use Rattle.encoded_project.proofs.Args.{config-front}
+use Rattle.encoded_project.specs.Steps.{keptAt, readWith, readBehind}
+use Rattle.encoded_project.proofs.Rooms.{both-true, short-list, short-tables, short-none, args-room, args-laid, work-room}
+use Rattle.encoded_project.proofs.Args.{either-false, config-front}
 
 -- ---- rows, judged and copied
 
@@ -94,6 +98,37 @@ module _ (lim : Limits) (n : ℕ) (a : ProjectionConfig) (own : List ℕ) (c : F
     pub behind-bad : (q : ℕ) → w ≡ Bad q → refused (NotWellFormed q) o ≡ readWith lim n a own s c o
     unfolding readWith overIn
     behind-bad q h = rw (sym e ∙ h)
+
+-- ---- room for what was laid before
+
+from-fits : (n : ℕ) (most room : Fill) → fits (plus (bytes n) most) room ≡ true → fits (bytes n) room ≡ true
+from-fits n most room h =
+    let u = under (plus (bytes n) most) room h in
+    true-says (says-fits (bytes n) room) (record { segments = omega arith; views = omega arith; runs = omega arith; borrows = omega arith; ids = omega arith; bytes = omega (arith, u .bytes) })
+
+-- ---- the arguments, and the bytes behind them
+
+module _ (lim : Limits) (args : List ℕ) (a : ProjectionConfig) (own s : List ℕ) (w o : Lent) (b : Bool)
+    (e : b ≡ (fits (lim .fill) (workRoom lim w) && fits (plus (bytes (length args)) (lim .fill)) (roomOf o))) where
+  pub behind-short : b ≡ false → refused NoRoom o ≡ readBehind lim args a own s w o
+  unfolding readBehind
+  behind-short h = rw (sym e ∙ h)
+
+  module _ (h : b ≡ true) where
+    behind-both : (fits (lim .fill) (workRoom lim w) ≡ true) × (fits (plus (bytes (length args)) (lim .fill)) (roomOf o) ≡ true)
+    behind-both = both-true (fits (lim .fill) (workRoom lim w)) (fits (plus (bytes (length args)) (lim .fill)) (roomOf o)) (sym e ∙ h)
+
+    pub behind-args : 0 + length args ≤ length (o .pool)
+    behind-args = args-room (lim .fill) o args (behind-both .1)
+
+    module _ (p : List ℕ) (ep : p ≡ write (o .pool) 0 args) where
+      pub behind-rows : (fits (bytes (length args)) (roomOf (record { segments = o .segments; views = o .views; runs = o .runs; borrows = o .borrows; ids = o .ids; pool = p })) ≡ true) × (fits (lim .fill) (workRoom lim w) ≡ true)
+      behind-rows = (from-fits (length args) (lim .fill) (roomOf (record { segments = o .segments; views = o .views; runs = o .runs; borrows = o .borrows; ids = o .ids; pool = p })) (args-laid (lim .fill) o args (behind-both .1) p ep), behind-both .0)
+
+      pub behind-laid : (y : Laid) → y ≡ readWith lim (length args) a own s (bytes (length args)) (record { segments = o .segments; views = o .views; runs = o .runs; borrows = o .borrows; ids = o .ids; pool = p }) → y ≡ readBehind lim args a own s w o
+      unfolding readBehind
+      behind-laid y k =
+          k ∙ ap (λ (q : List ℕ). readWith lim (length args) a own s (bytes (length args)) (record { segments = o .segments; views = o .views; runs = o .runs; borrows = o .borrows; ids = o .ids; pool = q })) ep ∙ rw (sym e ∙ h)
 
 -- ---- what was read, and the projection of it
 
@@ -186,31 +221,90 @@ module _ (lim : Limits) (s args : List ℕ) (a : ProjectionConfig) (own : List �
           ∙ ap (λ (m : Manifest). projectedTo lim room out (configFor args a own (length (accepted .value .segments))) m) (accepted-decode lim s (bytes n) row o′ accepted)
           ∙ asked-holds (accepted .value) (overIn lim (length args) a own s) (encodedOf lim s) (ap (λ (k : ℕ). overIn lim k a own s) (sym en) ∙ not-over) (accepted .is)
 
--- ---- room for what was laid before
+-- ---- what stands behind the arguments
 
-pub from-fits : (n : ℕ) (most room : Fill) → fits (plus (bytes n) most) room ≡ true → fits (bytes n) room ≡ true
-from-fits n most room h =
-    let u = under (plus (bytes n) most) room h in
-    true-says (says-fits (bytes n) room) (record { segments = omega arith; views = omega arith; runs = omega arith; borrows = omega arith; ids = omega arith; bytes = omega (arith, u .bytes) })
+module _ (lim : Limits) (s args : List ℕ) (a : ProjectionConfig) (own : List ℕ) (w t : Lent) (h : (longOf s || globalOver (lim .key) (length args) (a .«global_range»)) ≡ false) (r : Copied) (o : Lent) (e : record { answer = r; out = o } ≡ readBehind lim args a own s w t) where
+  ls : longOf s ≡ false
+  ls = either-false (longOf s) (globalOver (lim .key) (length args) (a .«global_range»)) h .0
+
+  abbrev enough : Bool
+  enough = fits (lim .fill) (workRoom lim w) && fits (plus (bytes (length args)) (lim .fill)) (roomOf t)
+
+  abbrev laid : Lent
+  laid = record { segments = t .segments; views = t .views; runs = t .runs; borrows = t .borrows; ids = t .ids; pool = write (t .pool) 0 args }
+
+  read-laid : enough ≡ true → record { answer = r; out = o } ≡ readWith lim (length args) a own s (bytes (length args)) laid
+  unfolding readBehind
+  read-laid k = let z : readBehind lim args a own s w t ≡ readWith lim (length args) a own s (bytes (length args)) laid = rw k in e ∙ z
+
+  read-short : enough ≡ false → record { answer = r; out = o } ≡ refused NoRoom t
+  unfolding readBehind
+  read-short k = let z : readBehind lim args a own s w t ≡ refused NoRoom t = rw k in e ∙ z
+
+  work-fits : enough ≡ true → fits (lim .fill) (workRoom lim w) ≡ true
+  work-fits k = both-true (fits (lim .fill) (workRoom lim w)) (fits (plus (bytes (length args)) (lim .fill)) (roomOf t)) k .0
+
+  laid-fits : enough ≡ true → fits (plus (bytes (length args)) (lim .fill)) (roomOf laid) ≡ true
+  laid-fits k = args-laid (lim .fill) t args (both-true (fits (lim .fill) (workRoom lim w)) (fits (plus (bytes (length args)) (lim .fill)) (roomOf t)) k .1) (write (t .pool) 0 args) refl
+
+  module _ (row : ManifestRow) (f : r ≡ Done row) where
+    done-enough : enough ≡ true
+    done-enough = go enough refl
+      where
+        go : (b : Bool) → enough ≡ b → enough ≡ true
+        go true k = k
+        go false k = let u : Done row ≡ Refused NoRoom = sym f ∙ ap (λ (y : Laid). y .answer) (read-short k) in let z : _≡_ {A = ℕ} 0 1 = cc in absurd (omega arith)
+
+    -- what is asked of the rows that are projected, of the list of ids in use and of the tables of the result
+    pub done-requires : (u p : ℕ) → (ltb (u / 2) (lim .fill .views) || ltb p (lim .fill .bytes)) ≡ false → (a b c d e : ℕ) → a ≡ length (w .segments) → b ≡ length (w .views) → c ≡ length (w .runs) → d ≡ length (w .borrows) → e ≡ length (w .ids)
+        → (judgedOf lim o row ≡ Lawful) × ((lim .fill .views ≤ u / 2) × ((lim .fill .segments * 12 ≤ a) × (lim .fill .views * 16 ≤ b) × (lim .fill .runs * 3 ≤ c) × (lim .fill .borrows * 9 ≤ d) × (lim .fill .ids * 2 ≤ e) × (lim .fill .bytes ≤ p)))
+    done-requires u p g b c d i j eb ec ed ei ej =
+        let q = either-false (ltb (u / 2) (lim .fill .views)) (ltb p (lim .fill .bytes)) g in (
+          read-judged lim s args a own (lim .fill) [] (length args) refl w ls (work-fits done-enough) laid (drop (0 + length args) (t .pool)) refl (laid-fits done-enough) r o (read-laid done-enough) row f,
+          (
+            ltb-false (u / 2) (lim .fill .views) (q .0),
+            work-room lim w (work-fits done-enough) b c d i j p eb ec ed ei ej (ltb-false p (lim .fill .bytes) (q .1)),
+          ),
+        )
 
 -- ---- the order of refusals
 
 module _ (lim : Limits) (s args : List ℕ) (a : ProjectionConfig) (own : List ℕ) (room : Fill) (w t : Lent) (used pool out : List ℕ) where
-  pub project-long : longOf s ≡ true → refusedTo out OverLimit ≡ projectTo lim s args a own room w t used pool out
+  pub project-over : (longOf s || globalOver (lim .key) (length args) (a .«global_range»)) ≡ true → refusedTo out OverLimit ≡ projectTo lim s args a own room w t used pool out
   unfolding projectTo
-  project-long h = rw h
+  project-over h = rw h
 
-  module _ (h : longOf s ≡ false) where
-    pub project-over : globalOver (lim .key) (length args) (a .«global_range») ≡ true → refusedTo out OverLimit ≡ projectTo lim s args a own room w t used pool out
+  module _ (h : (longOf s || globalOver (lim .key) (length args) (a .«global_range»)) ≡ false) where
+    project-short : shortAny lim (length args) w t used pool ≡ true → refusedTo out NoRoom ≡ projectTo lim s args a own room w t used pool out
     unfolding projectTo
-    project-over k = rw (h, k)
+    project-short g = rw (h, g)
 
-    module _ (k : globalOver (lim .key) (length args) (a .«global_range») ≡ false) where
-      pub project-short : shortAny lim (length args) w t used pool ≡ true → refusedTo out NoRoom ≡ projectTo lim s args a own room w t used pool out
-      unfolding projectTo
-      project-short g = rw (h, k, g)
+    project-bytes : shortAny lim (length args) w t used pool ≡ false
+        → pick (overIn lim (length args) a own s) (refusedTo out OverLimit) (asked lim s args a own room out (encodedOf lim s)) ≡ projectTo lim s args a own room w t used pool out
+    unfolding projectTo
+    project-bytes g = rw (h, g)
 
-      pub project-bytes : shortAny lim (length args) w t used pool ≡ false
-          → pick (overIn lim (length args) a own s) (refusedTo out OverLimit) (asked lim s args a own room out (encodedOf lim s)) ≡ projectTo lim s args a own room w t used pool out
-      unfolding projectTo
-      project-bytes g = rw (h, k, g)
+    pub project-list : (ltb (length used / 2) (lim .fill .views) || ltb (length pool) (lim .fill .bytes)) ≡ true → refusedTo out NoRoom ≡ projectTo lim s args a own room w t used pool out
+    project-list g = project-short (short-list (fits (lim .fill) (workRoom lim w)) (fits (plus (bytes (length args)) (lim .fill)) (roomOf t)) (ltb (length used / 2) (lim .fill .views)) (ltb (length pool) (lim .fill .bytes)) g)
+
+    module _ (g : (ltb (length used / 2) (lim .fill .views) || ltb (length pool) (lim .fill .bytes)) ≡ false) (r : Copied) (o : Lent) (e : record { answer = r; out = o } ≡ readBehind lim args a own s w t) where
+      roomy : enough lim s args a own w t h r o e ≡ true → shortAny lim (length args) w t used pool ≡ false
+      roomy k = short-none (fits (lim .fill) (workRoom lim w)) (fits (plus (bytes (length args)) (lim .fill)) (roomOf t)) (ltb (length used / 2) (lim .fill .views)) (ltb (length pool) (lim .fill .bytes)) k g
+
+      pub project-refused : (x : Refusal) → r ≡ Refused x → refusedTo out x ≡ projectTo lim s args a own room w t used pool out
+      project-refused x f = go (enough lim s args a own w t h r o e) refl
+        where
+          go : (b : Bool) → enough lim s args a own w t h r o e ≡ b → refusedTo out x ≡ projectTo lim s args a own room w t used pool out
+          go true k =
+              read-refuses lim s args a own room out (length args) refl w (ls lim s args a own w t h r o e) (work-fits lim s args a own w t h r o e k) (laid lim s args a own w t h r o e) (drop (0 + length args) (t .pool)) refl (laid-fits lim s args a own w t h r o e k) r o (read-laid lim s args a own w t h r o e k) x f
+              ∙ project-bytes (roomy k)
+          go false k =
+              let u : Refused x ≡ Refused NoRoom = sym f ∙ ap (λ (y : Laid). y .answer) (read-short lim s args a own w t h r o e k) in
+              let z : x ≡ NoRoom = cc in
+              ap (refusedTo out) z ∙ project-short (short-tables (fits (lim .fill) (workRoom lim w)) (fits (plus (bytes (length args)) (lim .fill)) (roomOf t)) (ltb (length used / 2) (lim .fill .views)) (ltb (length pool) (lim .fill .bytes)) k)
+
+      pub project-done : (row : ManifestRow) → r ≡ Done row → projectedTo lim room out (configFor (o .pool) a own (row .segments .count)) (manifestIn o row) ≡ projectTo lim s args a own room w t used pool out
+      project-done row f =
+          let k = done-enough lim s args a own w t h r o e row f in
+          read-projects lim s args a own room out (length args) refl w (ls lim s args a own w t h r o e) (work-fits lim s args a own w t h r o e k) (laid lim s args a own w t h r o e) (drop (0 + length args) (t .pool)) refl (laid-fits lim s args a own w t h r o e k) r o (read-laid lim s args a own w t h r o e k) row f
+          ∙ project-bytes (roomy k)

@@ -5,7 +5,7 @@ use mathlib.Core.Bool.{Bool, true, false, not, _&&_, _||_}
 use mathlib.Core.List.{List}
 use native.Mathlib.Omega.{arith}
 use native.Mathlib.Decide.{decLt}
-use borrow.Author.Tests.{ltb-false, lt-ltb, le-ltb, le-leb, lt-leb}
+use borrow.Author.Tests.{lt-ltb, le-ltb, le-leb, lt-leb}
 use lib.Dec.{leb, ltb}
 use lib.ListN.{length}
 use Rattle.keys.specs.Pick.{pick}
@@ -26,9 +26,9 @@ use Rattle.segments.specs.Refuses.{rangeOver}
 use Rattle.project_ranges.specs.Config.{Config}
 use Rattle.project_ranges.specs.Args.{globalOver}
 use Rattle.project_ranges.specs.declared.Global.{Global}
-use Rattle.project_ranges.specs.declared.Global.the-variants.{Set}
+use Rattle.project_ranges.specs.declared.Global.the-variants.{Unset, Set}
 use Rattle.project.specs.Project.{projectedOf}
-use Rattle.encoded_project.specs.Project.{givenTo, projectedTo, shortAny}
+use Rattle.encoded_project.specs.Project.{givenTo, projectedTo}
 
 -- ---- the part of each table
 
@@ -74,10 +74,27 @@ module _ (rows segments : ℕ) where
   pub count-under : (n : ℕ) → n ≡ pick (leb rows segments) rows (suc segments) → n ≤ rows
   count-under n e = elim (decLt segments rows) [ yes l ↦ let h = rw (lt-leb rows segments l) at e in omega arith | no k ↦ let h = rw (le-leb rows segments (omega arith)) at e in omega arith ]
 
--- ---- the global range
+-- ---- the form of the call
 
-pub global-set : (most n : ℕ) (g : Global) (r : Range) (b : Bool) → g ≡ Set r → b ≡ rangeOver most n r → b ≡ globalOver most n g
-global-set most n g r b h e = rw h e
+module _ (most long n : ℕ) (g : Global) where
+  pub call-long : suc 0x1_0000 ≤ long → true ≡ (ltb 0x1_0000 long || globalOver most n g)
+  call-long h = rw (lt-ltb 0x1_0000 long h)
+
+  module _ (h : long ≤ 0x1_0000) where
+    pub call-unset : g ≡ Unset → false ≡ (ltb 0x1_0000 long || globalOver most n g)
+    call-unset e = rw (le-ltb 0x1_0000 long h, e)
+
+    pub call-set : (r : Range) (b : Bool) → g ≡ Set r → b ≡ rangeOver most n r → b ≡ (ltb 0x1_0000 long || globalOver most n g)
+    call-set r b e k = rw (le-ltb 0x1_0000 long h, e) k
+
+-- ---- the list of ids in use, and the pool of the result
+
+module _ (used views pool most : ℕ) where
+  pub list-short : suc used ≤ views → true ≡ (ltb used views || ltb pool most)
+  list-short h = rw (lt-ltb used views h)
+
+  pub list-long : views ≤ used → ltb pool most ≡ (ltb used views || ltb pool most)
+  list-long h = rw (le-ltb used views h)
 
 -- ---- room behind the arguments
 
@@ -88,61 +105,51 @@ module _ (room from most : Fill) (a : Bool) (e : a ≡ fits from room) where
   pub behind-left : (b : Bool) (left : Fill) → a ≡ true → left ≡ leftOf room from → b ≡ fits most left → b ≡ fits (plus from most) room
   behind-left b left h k f = f ∙ ap (fits most) k ∙ fits-left room from most (under from room (sym e ∙ h))
 
-least-or : (a b : ℕ) → leb a b ≡ not (ltb b a)
-least-or a b = elim (decLt b a) [ yes l ↦ rw (lt-ltb b a l, lt-leb a b l) | no n ↦ rw (le-ltb b a (omega arith), le-leb a b (omega arith)) ]
+-- ---- the working tables
 
--- ---- the working memory
+module _ (a x y : Bool) (e : a ≡ x) where
+  pub tables-work : a ≡ false → false ≡ (x && y)
+  tables-work h = rw (sym e ∙ h)
 
--- what there is room for
-pub record Roomy (lim : Limits) (n : ℕ) (w t : Lent) (used pool : List ℕ) : Type 0 where
-  pub work : fits (lim .fill) (workRoom lim w) ≡ true
-  pub behind : fits (plus (bytes n) (lim .fill)) (roomOf t) ≡ true
-  pub list : lim .fill .views ≤ length used / 2
-  pub bytes-left : lim .fill .bytes ≤ length pool
+  pub tables-behind : a ≡ true → (b : Bool) → b ≡ y → b ≡ (x && y)
+  tables-behind h b f = rw (sym e ∙ h) f
 
-module _ (lim : Limits) (n : ℕ) (w t : Lent) (used pool : List ℕ) where
-  pub roomy : shortAny lim n w t used pool ≡ false → Roomy lim n w t used pool
-  roomy e =
-      let z = go (fits (lim .fill) (workRoom lim w)) (fits (plus (bytes n) (lim .fill)) (roomOf t)) (ltb (length used / 2) (lim .fill .views)) (ltb (length pool) (lim .fill .bytes)) e in
-      record { work = z .0; behind = z .1; list = ltb-false (length used / 2) (lim .fill .views) (z .2); bytes-left = ltb-false (length pool) (lim .fill .bytes) (z .3) }
-    where
-      go : (a b c d : Bool) → (not a || not b || c || d) ≡ false → (a ≡ true) × (b ≡ true) × (c ≡ false) × (d ≡ false)
-      go true true false false e = (refl, refl, refl, refl)
-      go true true false true e = let z : _≡_ {A = ℕ} 0 1 = cc in absurd (omega arith)
-      go true true true d e = let z : _≡_ {A = ℕ} 0 1 = cc in absurd (omega arith)
-      go true false c d e = let z : _≡_ {A = ℕ} 0 1 = cc in absurd (omega arith)
-      go false b c d e = let z : _≡_ {A = ℕ} 0 1 = cc in absurd (omega arith)
+pub both-true : (a b : Bool) → (a && b) ≡ true → (a ≡ true) × (b ≡ true)
+both-true true true e = (refl, refl)
+both-true true false e = let z : _≡_ {A = ℕ} 0 1 = cc in absurd (omega arith)
+both-true false b e = let z : _≡_ {A = ℕ} 0 1 = cc in absurd (omega arith)
 
-  module _ (x : Roomy lim n w t used pool) where
-    pub args-room : 0 + n ≤ length (t .pool)
-    args-room = let u = under (plus (bytes n) (lim .fill)) (roomOf t) (x .behind) in omega (arith, u .bytes)
+-- `shortAny` in two parts
+pub short-list : (a b c d : Bool) → (c || d) ≡ true → (not a || not b || c || d) ≡ true
+short-list false b c d e = refl
+short-list true false c d e = refl
+short-list true true c d e = e
 
-    -- the arguments laid at the front
-    pub args-laid : (k : ℕ) (p args : List ℕ) → n ≡ length args → k ≡ 0 + length args → p ≡ write (t .pool) 0 args
-        → fits (plus (bytes k) (lim .fill)) (roomOf (record { segments = t .segments; views = t .views; runs = t .runs; borrows = t .borrows; ids = t .ids; pool = p })) ≡ true
-    args-laid k p args en ek ep =
-        let l : length p ≡ length (t .pool) = ap length ep ∙ write-length (t .pool) 0 args (omega (arith, args-room)) in
-        let z : k ≡ n = omega arith in
-        rw (l, z) (x .behind)
+pub short-tables : (a b c d : Bool) → (a && b) ≡ false → (not a || not b || c || d) ≡ true
+short-tables false b c d e = refl
+short-tables true false c d e = refl
+short-tables true true c d e = let z : _≡_ {A = ℕ} 0 1 = cc in absurd (omega arith)
 
-    -- the tables that were read into have room for any result within L1
-    pub work-room : (a b c d e p : ℕ) → a ≡ length (w .segments) → b ≡ length (w .views) → c ≡ length (w .runs) → d ≡ length (w .borrows) → e ≡ length (w .ids) → p ≡ length pool
-        → (lim .fill .segments * 12 ≤ a) × (lim .fill .views * 16 ≤ b) × (lim .fill .runs * 3 ≤ c) × (lim .fill .borrows * 9 ≤ d) × (lim .fill .ids * 2 ≤ e) × (lim .fill .bytes ≤ p)
-    work-room a b c d e p ea eb ec ed ee ep =
-        let u = under (lim .fill) (workRoom lim w) (x .work) in
-        (omega (arith, u .segments, ea), omega (arith, u .views, eb), omega (arith, u .runs, ec), omega (arith, u .borrows, ed), omega (arith, u .ids, ee), omega (arith, x .bytes-left, ep))
+pub short-none : (a b c d : Bool) → (a && b) ≡ true → (c || d) ≡ false → (not a || not b || c || d) ≡ false
+short-none true true c d e f = f
+short-none true false c d e f = let z : _≡_ {A = ℕ} 0 1 = cc in absurd (omega arith)
+short-none false b c d e f = let z : _≡_ {A = ℕ} 0 1 = cc in absurd (omega arith)
 
-  module _ (a : Bool) (e : a ≡ fits (lim .fill) (workRoom lim w)) where
-    pub tables-work : a ≡ false → false ≡ not (shortAny lim n w t used pool)
-    tables-work h = rw (sym e ∙ h)
+-- the arguments laid at the front
+module _ (most : Fill) (t : Lent) (args : List ℕ) (x : fits (plus (bytes (length args)) most) (roomOf t) ≡ true) where
+  pub args-room : 0 + length args ≤ length (t .pool)
+  args-room = let u = under (plus (bytes (length args)) most) (roomOf t) x in omega (arith, u .bytes)
 
-    module _ (h : a ≡ true) (b : Bool) (f : b ≡ fits (plus (bytes n) (lim .fill)) (roomOf t)) where
-      pub tables-behind : b ≡ false → false ≡ not (shortAny lim n w t used pool)
-      tables-behind k = rw (sym e ∙ h, sym f ∙ k)
+  pub args-laid : (p : List ℕ) → p ≡ write (t .pool) 0 args
+      → fits (plus (bytes (length args)) most) (roomOf (record { segments = t .segments; views = t .views; runs = t .runs; borrows = t .borrows; ids = t .ids; pool = p })) ≡ true
+  args-laid p ep =
+      let l : length p ≡ length (t .pool) = ap length ep ∙ write-length (t .pool) 0 args (omega (arith, args-room)) in
+      rw l x
 
-      module _ (k : b ≡ true) where
-        pub tables-list : suc (length used / 2) ≤ lim .fill .views → false ≡ not (shortAny lim n w t used pool)
-        tables-list l = rw (sym e ∙ h, sym f ∙ k, lt-ltb (length used / 2) (lim .fill .views) l)
-
-        pub tables-pool : lim .fill .views ≤ length used / 2 → leb (lim .fill .bytes) (length pool) ≡ not (shortAny lim n w t used pool)
-        tables-pool l = rw (sym e ∙ h, sym f ∙ k, le-ltb (length used / 2) (lim .fill .views) l) (least-or (lim .fill .bytes) (length pool))
+-- the tables that were read into have room for any result within L1
+module _ (lim : Limits) (w : Lent) (x : fits (lim .fill) (workRoom lim w) ≡ true) where
+  pub work-room : (a b c d e p : ℕ) → a ≡ length (w .segments) → b ≡ length (w .views) → c ≡ length (w .runs) → d ≡ length (w .borrows) → e ≡ length (w .ids) → lim .fill .bytes ≤ p
+      → (lim .fill .segments * 12 ≤ a) × (lim .fill .views * 16 ≤ b) × (lim .fill .runs * 3 ≤ c) × (lim .fill .borrows * 9 ≤ d) × (lim .fill .ids * 2 ≤ e) × (lim .fill .bytes ≤ p)
+  work-room a b c d e p ea eb ec ed ee lp =
+      let u = under (lim .fill) (workRoom lim w) x in
+      (omega (arith, u .segments, ea), omega (arith, u .views, eb), omega (arith, u .runs, ec), omega (arith, u .borrows, ed), omega (arith, u .ids, ee), lp)

@@ -6,6 +6,7 @@ use lawful::lawful;
 use manifest_rows::GotManifest;
 use manifest_rows::fill_manifest;
 use measure::fits_in;
+use measure::left_of;
 use msgpack::Whole;
 use project_ranges::ProjectionConfig;
 use project_ranges::config_over;
@@ -13,11 +14,14 @@ use records::Fill;
 use records::Limits;
 use records::ManifestRow;
 use records::Refusal;
+use tables::put_bytes;
 ghost use mathlib.Core.Path.{_≡_};
-ghost use mathlib.Core.Bool.{true};
+ghost use mathlib.Core.Bool.{true, _&&_};
+ghost use mathlib.Core.List.{[]};
+ghost use Prim.Native.Nat.{_/_};
 ghost use lib.ListN.{length};
 ghost use Rattle.keys.specs.Pick.{pick};
-ghost use Rattle.records.specs.Fill.{fits};
+ghost use Rattle.records.specs.Fill.{plus, bytes, fits};
 ghost use Rattle.records.specs.declared.Refusal.the-variants.{OverLimit};
 ghost use Rattle.copy.specs.Copy.{roomOf, givenAt};
 ghost use Rattle.manifest_values.specs.Read.{manifestAt};
@@ -25,7 +29,7 @@ ghost use Rattle.manifest_rows.specs.Stored.{lent};
 ghost use Rattle.manifest_read.specs.Answer.{refused, byRecord, workRoom};
 ghost use Rattle.project_ranges.specs.Args.{configOver};
 ghost use Rattle.encoded_project.specs.Project.{overGot};
-ghost use Rattle.encoded_project.specs.Steps.{keptAt, readWith};
+ghost use Rattle.encoded_project.specs.Steps.{keptAt, readBehind};
 
 // Judges rows, of which there are `f`, then copies what is lawful behind what fills `c`.
 fn keep_at(
@@ -128,11 +132,73 @@ fn read_rows(
     }
 }
 
-// Reads a manifest behind what fills `c`.
+// ---- the working tables
+
+// Whether there is room for any manifest within L1 behind `n` bytes.
+fn has_behind(most: Fill, n: usize, room: Fill) -> bool
+    ensures { λ r. ⌜ r ≡ fits (plus (bytes n) most) room ⌝ }
+{
+    let from = Fill {
+        segments: 0,
+        views: 0,
+        runs: 0,
+        borrows: 0,
+        ids: 0,
+        bytes: n,
+    };
+    if fits_in(from, room) {
+        let left = left_of(room, from);
+        return fits_in(most, left);
+    }
+    false
+}
+
+// Whether tables of so many words have room for any manifest within L1: those that it is read into, and those that hold it behind `n` bytes.
+fn has_tables(
+    lim: Limits,
+    n: usize,
+    segments: usize,
+    views: usize,
+    runs: usize,
+    borrows: usize,
+    ids: usize,
+    in_segments: usize,
+    in_views: usize,
+    in_runs: usize,
+    in_borrows: usize,
+    in_ids: usize,
+    in_pool: usize,
+) -> bool
+    ensures { λ r. ⌜ r ≡ (fits (lim .fill) (record { segments = segments / 12; views = views / 16; runs = runs / 3; borrows = borrows / 9; ids = ids / 2; bytes = lim .fill .bytes }) && fits (plus (bytes n) (lim .fill)) (record { segments = «in_segments» / 12; views = «in_views» / 16; runs = «in_runs» / 3; borrows = «in_borrows» / 9; ids = «in_ids» / 2; bytes = «in_pool» })) ⌝ }
+{
+    let most = lim.fill;
+    let work = Fill {
+        segments: segments / 12,
+        views: views / 16,
+        runs: runs / 3,
+        borrows: borrows / 9,
+        ids: ids / 2,
+        bytes: most.bytes,
+    };
+    let room = Fill {
+        segments: in_segments / 12,
+        views: in_views / 16,
+        runs: in_runs / 3,
+        borrows: in_borrows / 9,
+        ids: in_ids / 2,
+        bytes: in_pool,
+    };
+    if fits_in(most, work) {
+        return has_behind(most, n, room);
+    }
+    false
+}
+
+// Lays the arguments at the front and reads a manifest behind them, where there is room for any within L1.
 pub fn read_behind(
     lim: Limits,
     s: &[u8],
-    n: usize,
+    args: &[u8],
     a: ProjectionConfig,
     own: &[u64],
     segments: &mut [u64],
@@ -146,32 +212,56 @@ pub fn read_behind(
     in_borrows: &mut [u64],
     in_ids: &mut [u64],
     in_pool: &mut [u8],
-    c: Fill,
 ) -> Copied
-    requires { ⌜ fits c (roomOf (lent (now «in_segments») (now «in_views») (now «in_runs») (now «in_borrows») (now «in_ids») (now «in_pool»))) ≡ true ⌝ }
-    requires { ⌜ fits (lim .fill) (workRoom lim (lent (now segments) (now views) (now runs) (now borrows) (now ids) (now s))) ≡ true ⌝ }
-    ensures { λ r. ⌜ record { answer = r; out = (lent (now («in_segments» .exit)) (now («in_views» .exit)) (now («in_runs» .exit)) (now («in_borrows» .exit)) (now («in_ids» .exit)) (now («in_pool» .exit))) } ≡ readWith lim n a (now (own .entry)) (now (s .entry)) c (lent (now («in_segments» .entry)) (now («in_views» .entry)) (now («in_runs» .entry)) (now («in_borrows» .entry)) (now («in_ids» .entry)) (now («in_pool» .entry))) ⌝ }
+    ensures { λ r. ⌜ record { answer = r; out = (lent (now («in_segments» .exit)) (now («in_views» .exit)) (now («in_runs» .exit)) (now («in_borrows» .exit)) (now («in_ids» .exit)) (now («in_pool» .exit))) } ≡ readBehind lim (now (args .entry)) a (now (own .entry)) (now (s .entry)) (lent (now (segments .entry)) (now (views .entry)) (now (runs .entry)) (now (borrows .entry)) (now (ids .entry)) []) (lent (now («in_segments» .entry)) (now («in_views» .entry)) (now («in_runs» .entry)) (now («in_borrows» .entry)) (now («in_ids» .entry)) (now («in_pool» .entry))) ⌝ }
 {
-    match msgpack::well_formed(s) {
-        Whole::Good => read_rows(
-            lim,
-            s,
-            n,
-            a,
-            own,
-            segments,
-            views,
-            runs,
-            borrows,
-            ids,
-            in_segments,
-            in_views,
-            in_runs,
-            in_borrows,
-            in_ids,
-            in_pool,
-            c,
-        ),
-        Whole::Bad(w) => Copied::Refused(Refusal::NotWellFormed(w)),
+    let n = args.len();
+    if has_tables(
+        lim,
+        n,
+        segments.len(),
+        views.len(),
+        runs.len(),
+        borrows.len(),
+        ids.len(),
+        in_segments.len(),
+        in_views.len(),
+        in_runs.len(),
+        in_borrows.len(),
+        in_ids.len(),
+        in_pool.len(),
+    ) {
+        let end = put_bytes(args, in_pool, 0);
+        let from = Fill {
+            segments: 0,
+            views: 0,
+            runs: 0,
+            borrows: 0,
+            ids: 0,
+            bytes: n,
+        };
+        return match msgpack::well_formed(s) {
+            Whole::Good => read_rows(
+                lim,
+                s,
+                n,
+                a,
+                own,
+                segments,
+                views,
+                runs,
+                borrows,
+                ids,
+                in_segments,
+                in_views,
+                in_runs,
+                in_borrows,
+                in_ids,
+                in_pool,
+                from,
+            ),
+            Whole::Bad(w) => Copied::Refused(Refusal::NotWellFormed(w)),
+        };
     }
+    Copied::Refused(Refusal::NoRoom)
 }

@@ -104,62 +104,6 @@ fn project_into(
     }
 }
 
-// Projects into the part of the result tables that the room and L1 leave. They have room for any manifest within L1.
-fn project_within(
-    lim: Limits,
-    in_segments: &[u64],
-    in_views: &[u64],
-    in_runs: &[u64],
-    in_borrows: &[u64],
-    in_ids: &[u64],
-    in_pool: &[u8],
-    m: ManifestRow,
-    c: ProjectionConfig,
-    own: &[u64],
-    used: &mut [u64],
-    room: Fill,
-    segments: &mut [u64],
-    views: &mut [u64],
-    runs: &mut [u64],
-    borrows: &mut [u64],
-    ids: &mut [u64],
-    pool: &mut [u8],
-    out: &mut [u8],
-) -> ProjectedTo
-    requires { ⌜ judgedOf lim (lent (now «in_segments») (now «in_views») (now «in_runs») (now «in_borrows») (now «in_ids») (now «in_pool»)) m ≡ Lawful ⌝ }
-    requires { ⌜ lim .fill .views ≤ length (now used) / 2 ⌝ }
-    requires { ⌜ (lim .fill .segments * 12 ≤ length (now segments)) × (lim .fill .views * 16 ≤ length (now views)) × (lim .fill .runs * 3 ≤ length (now runs)) × (lim .fill .borrows * 9 ≤ length (now borrows)) × (lim .fill .ids * 2 ≤ length (now ids)) × (lim .fill .bytes ≤ length (now pool)) ⌝ }
-    ensures { λ r. ⌜ record { answer = r; out = now (out .exit) } ≡ projectedTo lim room (now (out .entry)) (configIn (now («in_pool» .entry)) c (now (own .entry))) (manifestIn (lent (now («in_segments» .entry)) (now («in_views» .entry)) (now («in_runs» .entry)) (now («in_borrows» .entry)) (now («in_ids» .entry)) (now («in_pool» .entry))) m) ⌝ }
-{
-    let most = lim.fill;
-    let a = least(most.segments, room.segments) * 12;
-    let b = least(most.views, room.views) * 16;
-    let d = least(most.runs, room.runs) * 3;
-    let e = least(most.borrows, room.borrows) * 9;
-    let f = least(most.ids, room.ids) * 2;
-    let g = least(most.bytes, room.bytes);
-    project_into(
-        lim,
-        in_segments,
-        in_views,
-        in_runs,
-        in_borrows,
-        in_ids,
-        in_pool,
-        m,
-        c,
-        own,
-        used,
-        &mut segments[..a],
-        &mut views[..b],
-        &mut runs[..d],
-        &mut borrows[..e],
-        &mut ids[..f],
-        &mut pool[..g],
-        out,
-    )
-}
-
 // How many of `rows` own ranges count: one for the unsegmented tree and one for each of so many segments.
 fn count_own(rows: usize, segments: usize) -> usize
     ensures { λ r. ⌜ r ≡ pick (leb rows segments) rows (suc segments) ⌝ }
@@ -170,8 +114,8 @@ fn count_own(rows: usize, segments: usize) -> usize
     segments + 1
 }
 
-// Projects by the own ranges that count.
-pub fn project_own(
+// Projects by the own ranges that count into the part of the result tables that the room and L1 leave. They have room for any manifest within L1.
+pub fn project_within(
     lim: Limits,
     in_segments: &[u64],
     in_views: &[u64],
@@ -199,7 +143,14 @@ pub fn project_own(
 {
     let w = m.segments;
     let k = count_own(own.len() / 6, w.count) * 6;
-    project_within(
+    let most = lim.fill;
+    let a = least(most.segments, room.segments) * 12;
+    let b = least(most.views, room.views) * 16;
+    let d = least(most.runs, room.runs) * 3;
+    let e = least(most.borrows, room.borrows) * 9;
+    let f = least(most.ids, room.ids) * 2;
+    let g = least(most.bytes, room.bytes);
+    project_into(
         lim,
         in_segments,
         in_views,
@@ -211,13 +162,12 @@ pub fn project_own(
         c,
         &own[..k],
         used,
-        room,
-        segments,
-        views,
-        runs,
-        borrows,
-        ids,
-        pool,
+        &mut segments[..a],
+        &mut views[..b],
+        &mut runs[..d],
+        &mut borrows[..e],
+        &mut ids[..f],
+        &mut pool[..g],
         out,
     )
 }

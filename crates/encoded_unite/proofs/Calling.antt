@@ -176,7 +176,7 @@ module _ (lim : Limits) (n : ℕ) (w t : Lent) (given lent : ℕ) (o : Lent) (sh
       go true false c d f e = let z : _≡_ {A = ℕ} 0 1 = cc in absurd (omega arith)
       go false b c d f e = let z : _≡_ {A = ℕ} 0 1 = cc in absurd (omega arith)
 
-  by-parts : (shortUnion lim n w t given lent o || short) ≡ (tablesShort lim n (workRoom lim w) (roomOf t) || restShort lim given lent (roomOf o) short)
+  pub by-parts : (shortUnion lim n w t given lent o || short) ≡ (tablesShort lim n (workRoom lim w) (roomOf t) || restShort lim given lent (roomOf o) short)
   unfolding shortUnion tablesShort restShort
   by-parts = go (not (fits (lim .fill) (workRoom lim w))) (not (fits (behind (lim .fill) (bytes n) mostSources) (roomOf t))) (ltb lent (given + lim .fill .borrows * 2) || not (fits (lim .fill) (roomOf o)))
     where
@@ -184,13 +184,6 @@ module _ (lim : Limits) (n : ℕ) (w t : Lent) (given lent : ℕ) (o : Lent) (sh
       go true b c = refl
       go false true c = refl
       go false false c = refl
-
-  module _ (a b : Bool) (e : a ≡ tablesShort lim n (workRoom lim w) (roomOf t)) (f : b ≡ restShort lim given lent (roomOf o) short) where
-    pub tested : (shortUnion lim n w t given lent o || short) ≡ (a || b)
-    tested = rw (e, f) by-parts
-
-    pub enough : a ≡ false → b ≡ false → (shortUnion lim n w t given lent o || short) ≡ false
-    enough h k = tested ∙ rw (h, k)
 
 module _ (lim : Limits) (n : ℕ) (work all : Fill) (a : Bool) (e : a ≡ fits (lim .fill) work) where
   pub tables-work : a ≡ false → true ≡ tablesShort lim n work all
@@ -215,6 +208,21 @@ module _ (lim : Limits) (given lent : ℕ) (to : Fill) (short : Bool) (a : Bool)
     unfolding restShort
     rest-own k x y = rw (sym e ∙ h, sym f ∙ k) y
 
+-- either of two tests, the first of which was made
+module _ (x y a : Bool) (e : a ≡ x) where
+  pub either-first : a ≡ true → true ≡ (x || y)
+  either-first h = rw (sym e ∙ h)
+
+  pub either-next : a ≡ false → (b : Bool) → b ≡ y → b ≡ (x || y)
+  either-next h b f = rw (sym e ∙ h) f
+
+-- tables that are as long as before have the same room
+module _ (most : Fill) {segments views runs borrows ids segments′ views′ runs′ borrows′ ids′ : ℕ} (pool : ℕ) where
+  pub same-room : segments′ ≡ segments → views′ ≡ views → runs′ ≡ runs → borrows′ ≡ borrows → ids′ ≡ ids
+      → fits most (record { segments = segments / 12; views = views / 16; runs = runs / 3; borrows = borrows / 9; ids = ids / 2; bytes = pool }) ≡ true
+      → fits most (record { segments = segments′ / 12; views = views′ / 16; runs = runs′ / 3; borrows = borrows′ / 9; ids = ids′ / 2; bytes = pool }) ≡ true
+  same-room a b d e f h = rw (a, b, d, e, f) h
+
 -- ---- what was read
 
 module _ (lim : Limits) (s ends paths pathEnds checkpoints : List ℕ) (n : ℕ) (r : Reading) (l : Lent) (t : List ℕ) (g : Gathered lim s ends paths pathEnds checkpoints n r l t) where
@@ -235,31 +243,18 @@ module _ (lim : Limits) (s ends paths pathEnds checkpoints : List ℕ) (n : ℕ)
 
 -- ---- the order of refusals
 
-or-true : (b : Bool) → (b || true) ≡ true
-or-true true = refl
-or-true false = refl
-
 module _ (lim : Limits) (s ends paths pathEnds checkpoints fresh : List ℕ) (room : Fill) (w t : Lent) (lent : ℕ) (short : Bool) (o : Lent) (out : List ℕ) (a : Bool) (e : a ≡ callOver lim s ends paths pathEnds checkpoints) where
   pub order-over : a ≡ true → refusedWith out OverLimit ≡ unionTo lim s ends paths pathEnds checkpoints fresh room w t lent short o out
   unfolding unionTo
   order-over h = rw (sym e ∙ h)
 
-  module _ (h : a ≡ false) (b : Bool) (f : b ≡ restShort lim (length fresh) lent (roomOf o) short) where
-    pub order-rest : b ≡ true → refusedWith out NoRoom ≡ unionTo lim s ends paths pathEnds checkpoints fresh room w t lent short o out
+  module _ (h : a ≡ false) (b : Bool) (f : b ≡ (tablesShort lim (length paths) (workRoom lim w) (roomOf t) || restShort lim (length fresh) lent (roomOf o) short)) where
+    pub order-short : b ≡ true → refusedWith out NoRoom ≡ unionTo lim s ends paths pathEnds checkpoints fresh room w t lent short o out
     unfolding unionTo
-    order-rest k =
-        let z : (shortUnion lim (length paths) w t (length fresh) lent o || short) ≡ true = tested lim (length paths) w t (length fresh) lent o short _ b refl f ∙ rw k (or-true (tablesShort lim (length paths) (workRoom lim w) (roomOf t))) in
-        rw (sym e ∙ h, z)
+    order-short k = rw (sym e ∙ h, by-parts lim (length paths) w t (length fresh) lent o short ∙ sym f ∙ k)
 
-    module _ (k : b ≡ false) (d : Bool) (g : d ≡ tablesShort lim (length paths) (workRoom lim w) (roomOf t)) where
-      pub order-tables : d ≡ true → refusedWith out NoRoom ≡ unionTo lim s ends paths pathEnds checkpoints fresh room w t lent short o out
-      unfolding unionTo
-      order-tables l =
-          let z : (shortUnion lim (length paths) w t (length fresh) lent o || short) ≡ true = tested lim (length paths) w t (length fresh) lent o short d b g f ∙ rw l in
-          rw (sym e ∙ h, z)
-
-      pub order-read : d ≡ false
-          → unlessUnread (refusedWith out) lim s ends (length ends) (unionOf lim room out (sourcesOf lim s ends paths pathEnds checkpoints (length ends)) (uuidsOf fresh))
-          ≡ unionTo lim s ends paths pathEnds checkpoints fresh room w t lent short o out
-      unfolding unionTo
-      order-read l = rw (sym e ∙ h, enough lim (length paths) w t (length fresh) lent o short d b g f l k)
+    pub order-read : b ≡ false
+        → unlessUnread (refusedWith out) lim s ends (length ends) (unionOf lim room out (sourcesOf lim s ends paths pathEnds checkpoints (length ends)) (uuidsOf fresh))
+        ≡ unionTo lim s ends paths pathEnds checkpoints fresh room w t lent short o out
+    unfolding unionTo
+    order-read k = rw (sym e ∙ h, by-parts lim (length paths) w t (length fresh) lent o short ∙ sym f ∙ k)

@@ -1,18 +1,22 @@
 // The form of the call and the working memory.
 use encoded_union::some_bad;
+use encoded_united::GROUPS;
+use encoded_united::OWNED;
+use encoded_united::PREFIXES;
 use manifest_read::LONGEST;
 use measure::fits_in;
 use records::Fill;
 use records::Limits;
 use unite_judge::work_short;
 ghost use mathlib.Core.Path.{_≡_};
-ghost use mathlib.Core.Bool.{true, false};
+ghost use mathlib.Core.Bool.{true, false, _||_};
 ghost use Prim.Native.Nat.{_+_, _-_, _*_, _/_};
 ghost use lib.Dec.{ltb};
 ghost use Rattle.records.specs.Fill.{bytes, fits};
-ghost use Rattle.unite_judge.specs.Judging.{mostSources, workShort};
+ghost use Rattle.unite_judge.specs.Judging.{mostSources};
 ghost use Rattle.manifest_rows.specs.Stored.{lent};
 ghost use Rattle.encoded_union.specs.Union.{behind, callOver};
+ghost use Rattle.encoded_united.specs.Lists.{ownShort};
 ghost use Rattle.encoded_unite.specs.Steps.{tablesShort, restShort};
 
 // Whether the call is none: too many sources, not as many paths or checkpoints, or a part that is none or too long.
@@ -75,7 +79,7 @@ fn lacks_fresh(lim: Limits, given: usize, lent: usize) -> bool
 
 // Whether tables of so many words are too short: those that each source is read into for some manifest within L1, or those that hold all for
 // some eight behind `n` bytes of paths.
-pub fn lacks_tables(
+fn lacks_tables(
     lim: Limits,
     n: usize,
     segments: usize,
@@ -116,37 +120,87 @@ pub fn lacks_tables(
 }
 
 // Whether the list of UUIDs, of which `given` words were lent, the tables of the result or the union's own working memory are too short.
-pub fn lacks_rest(
+fn lacks_rest(
     lim: Limits,
     given: usize,
     lent: usize,
-    prefixes: usize,
-    owned: usize,
-    groups: usize,
     sets: usize,
-    to_segments: usize,
-    to_views: usize,
-    to_runs: usize,
-    to_borrows: usize,
-    to_ids: usize,
+    segments: usize,
+    views: usize,
+    runs: usize,
+    borrows: usize,
+    ids: usize,
     to_pool: usize,
 ) -> bool
-    ensures { λ r. ⌜ r ≡ restShort lim given lent (record { segments = «to_segments» / 12; views = «to_views» / 16; runs = «to_runs» / 3; borrows = «to_borrows» / 9; ids = «to_ids» / 2; bytes = «to_pool» }) (workShort lim prefixes owned groups sets) ⌝ }
+    ensures { λ r. ⌜ r ≡ restShort lim given lent (record { segments = segments / 12; views = views / 16; runs = runs / 3; borrows = borrows / 9; ids = ids / 2; bytes = «to_pool» }) (ownShort lim sets) ⌝ }
 {
     let most = lim.fill;
     let to = Fill {
-        segments: to_segments / 12,
-        views: to_views / 16,
-        runs: to_runs / 3,
-        borrows: to_borrows / 9,
-        ids: to_ids / 2,
+        segments: segments / 12,
+        views: views / 16,
+        runs: runs / 3,
+        borrows: borrows / 9,
+        ids: ids / 2,
         bytes: to_pool,
     };
     if lacks_fresh(lim, given, lent) {
         return true;
     }
     if fits_in(most, to) {
-        return work_short(lim, prefixes, owned, groups, sets);
+        return work_short(lim, PREFIXES, OWNED, GROUPS, sets);
     }
     true
+}
+
+// Whether any of it is too short: the result has the tables that each source is read into, and a pool of its own.
+pub fn lacks_room(
+    lim: Limits,
+    n: usize,
+    given: usize,
+    lent: usize,
+    sets: usize,
+    segments: usize,
+    views: usize,
+    runs: usize,
+    borrows: usize,
+    ids: usize,
+    all_segments: usize,
+    all_views: usize,
+    all_runs: usize,
+    all_borrows: usize,
+    all_ids: usize,
+    all_pool: usize,
+    to_pool: usize,
+) -> bool
+    ensures { λ r. ⌜ r ≡ (tablesShort lim n (record { segments = segments / 12; views = views / 16; runs = runs / 3; borrows = borrows / 9; ids = ids / 2; bytes = lim .fill .bytes }) (record { segments = «all_segments» / 12; views = «all_views» / 16; runs = «all_runs» / 3; borrows = «all_borrows» / 9; ids = «all_ids» / 2; bytes = «all_pool» }) || restShort lim given lent (record { segments = segments / 12; views = views / 16; runs = runs / 3; borrows = borrows / 9; ids = ids / 2; bytes = «to_pool» }) (ownShort lim sets)) ⌝ }
+{
+    if lacks_tables(
+        lim,
+        n,
+        segments,
+        views,
+        runs,
+        borrows,
+        ids,
+        all_segments,
+        all_views,
+        all_runs,
+        all_borrows,
+        all_ids,
+        all_pool,
+    ) {
+        return true;
+    }
+    lacks_rest(
+        lim,
+        given,
+        lent,
+        sets,
+        segments,
+        views,
+        runs,
+        borrows,
+        ids,
+        to_pool,
+    )
 }

@@ -29,6 +29,7 @@ use Rattle.unite_ranges.specs.Arranged.{Ranged, whats}
 use Rattle.unite_sources.specs.Source.{Source, agreedName, refuses11}
 use Rattle.unite_sources.specs.Used.{inOrder, refuses12, refuses13}
 use Rattle.unite_sources.specs.Prefixed.{allPrefixes, refuses14, refuses12At, place12At}
+use Rattle.unite_judge.specs.Judging.{workShort}
 use Rattle.unite.specs.United.{unitedFrom, refuses15All}
 use Rattle.unite.specs.Answer as laying
 use Rattle.unite.specs.declared.United.{United}
@@ -40,6 +41,7 @@ use Rattle.encoded_borrows.specs.Clone.{freshPut}
 use Rattle.encoded_union.specs.Union.{unionPut, unlessUnfit, unionOf}
 use Rattle.encoded_united.specs.Steps.{lentWords}
 use Rattle.encoded_united.proofs.Lending.{united-lent}
+use Rattle.encoded_united.specs.Lists.{ownShort}
 
 -- ---- from the answer on tables
 
@@ -165,3 +167,9 @@ pub wide : (lim : Limits) (o : Lent) → fits (lim .fill) (roomOf o) ≡ true
 wide lim o h =
     let u = under (lim .fill) (roomOf o) h in
     (omega (arith, u .segments), omega (arith, u .views), omega (arith, u .runs), omega (arith, u .borrows), omega (arith, u .ids), omega (arith, u .bytes))
+
+-- ---- the union's own lists
+
+-- lists that are as long as they
+pub own-long : (lim : Limits) (prefixes owned groups sets : ℕ) → prefixes ≡ 1024 → owned ≡ 1024 → groups ≡ 1584 → ownShort lim sets ≡ false → workShort lim prefixes owned groups sets ≡ false
+own-long lim prefixes owned groups sets a b d h = rw (a, b, d) h

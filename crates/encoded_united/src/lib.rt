@@ -22,12 +22,20 @@ ghost use Rattle.lawful.specs.declared.Judged.the-variants.{Lawful};
 ghost use Rattle.copy.specs.Copy.{roomOf};
 ghost use Rattle.borrows.specs.Clone.{uuidsOf};
 ghost use Rattle.unite_sources.specs.Rows.{sourcesIn};
-ghost use Rattle.unite_judge.specs.Judging.{mostSources, sourcesJudged, workShort};
+ghost use Rattle.unite_judge.specs.Judging.{mostSources, sourcesJudged};
 ghost use Rattle.manifest_write.specs.Bytes.{manifestBytes};
 ghost use Rattle.manifest_rows.specs.Stored.{lent};
 ghost use Rattle.encoded_borrows.specs.Clone.{freshPut};
 ghost use Rattle.encoded_union.specs.Union.{unionOf};
+ghost use Rattle.encoded_united.specs.Lists.{ownShort};
 ghost use Rattle.encoded_united.specs.Steps.{lentWords};
+
+// The words of the union's own lists, for eight sources within the limits of 0.1: two for each prefix of a segment ..
+pub const PREFIXES: usize = 1024;
+// .. two for each id of one source's views ..
+pub const OWNED: usize = 1024;
+// .. and six for each group of borrows, of which each source has one more than it has borrows.
+pub const GROUPS: usize = 1584;
 
 // ---- the result
 
@@ -104,7 +112,7 @@ fn write_union(
     write_judged(segments, views, runs, borrows, ids, pool, m, out)
 }
 
-// Unites sources that were read, into tables that leave just the room there is, and writes the union.
+// Unites sources that were read, with lists of its own, into tables that leave just the room there is, and writes the union.
 fn union_into(
     lim: Limits,
     rows: &[u64],
@@ -117,9 +125,6 @@ fn union_into(
     all_pool: &[u8],
     fresh: &[u64],
     lent_fresh: &[u64],
-    prefixes: &mut [u64],
-    owned: &mut [u64],
-    groups: &mut [u64],
     sets: &mut [u64],
     to_segments: &mut [u64],
     to_views: &mut [u64],
@@ -129,10 +134,13 @@ fn union_into(
     to_pool: &mut [u8],
     out: &mut [u8],
 ) -> Written
-    requires { ⌜ (n ≤ mostSources) × (n * 22 ≤ length (now rows)) × (sourcesJudged lim (lent (now «all_segments») (now «all_views») (now «all_runs») (now «all_borrows») (now «all_ids») (now «all_pool»)) (now rows) n ≡ Lawful) × (workShort lim (length (now prefixes)) (length (now owned)) (length (now groups)) (length (now sets)) ≡ false) ⌝ }
+    requires { ⌜ (n ≤ mostSources) × (n * 22 ≤ length (now rows)) × (sourcesJudged lim (lent (now «all_segments») (now «all_views») (now «all_runs») (now «all_borrows») (now «all_ids») (now «all_pool»)) (now rows) n ≡ Lawful) × (ownShort lim (length (now sets)) ≡ false) ⌝ }
     requires { ⌜ (now «lent_fresh» ≡ lentWords (now fresh) (length (now «lent_fresh»))) × (lim .fill .borrows ≤ length (now «lent_fresh») / 2) ⌝ }
     ensures { λ r. ⌜ record { answer = r; out = now (out .exit) } ≡ unionOf lim (roomOf (lent (now («to_segments» .entry)) (now («to_views» .entry)) (now («to_runs» .entry)) (now («to_borrows» .entry)) (now («to_ids» .entry)) (now («to_pool» .entry)))) (now (out .entry)) (sourcesIn (lent (now («all_segments» .entry)) (now («all_views» .entry)) (now («all_runs» .entry)) (now («all_borrows» .entry)) (now («all_ids» .entry)) (now («all_pool» .entry))) (now (rows .entry)) n) (uuidsOf (now (fresh .entry))) ⌝ }
 {
+    let mut prefixes = [0u64; PREFIXES];
+    let mut owned = [0u64; OWNED];
+    let mut groups = [0u64; GROUPS];
     match union_judged(
         lim,
         rows,
@@ -144,9 +152,9 @@ fn union_into(
         all_ids,
         all_pool,
         lent_fresh,
-        prefixes,
-        owned,
-        groups,
+        &mut prefixes,
+        &mut owned,
+        &mut groups,
         sets,
         to_segments,
         to_views,
@@ -187,9 +195,6 @@ fn union_within(
     fresh: &[u64],
     lent_fresh: &[u64],
     room: Fill,
-    prefixes: &mut [u64],
-    owned: &mut [u64],
-    groups: &mut [u64],
     sets: &mut [u64],
     to_segments: &mut [u64],
     to_views: &mut [u64],
@@ -199,7 +204,7 @@ fn union_within(
     to_pool: &mut [u8],
     out: &mut [u8],
 ) -> Written
-    requires { ⌜ (n ≤ mostSources) × (n * 22 ≤ length (now rows)) × (sourcesJudged lim (lent (now «all_segments») (now «all_views») (now «all_runs») (now «all_borrows») (now «all_ids») (now «all_pool»)) (now rows) n ≡ Lawful) × (workShort lim (length (now prefixes)) (length (now owned)) (length (now groups)) (length (now sets)) ≡ false) ⌝ }
+    requires { ⌜ (n ≤ mostSources) × (n * 22 ≤ length (now rows)) × (sourcesJudged lim (lent (now «all_segments») (now «all_views») (now «all_runs») (now «all_borrows») (now «all_ids») (now «all_pool»)) (now rows) n ≡ Lawful) × (ownShort lim (length (now sets)) ≡ false) ⌝ }
     requires { ⌜ (now «lent_fresh» ≡ lentWords (now fresh) (length (now «lent_fresh»))) × (lim .fill .borrows ≤ length (now «lent_fresh») / 2) ⌝ }
     requires { ⌜ (lim .fill .segments * 12 ≤ length (now «to_segments»)) × (lim .fill .views * 16 ≤ length (now «to_views»)) × (lim .fill .runs * 3 ≤ length (now «to_runs»)) × (lim .fill .borrows * 9 ≤ length (now «to_borrows»)) × (lim .fill .ids * 2 ≤ length (now «to_ids»)) × (lim .fill .bytes ≤ length (now «to_pool»)) ⌝ }
     ensures { λ r. ⌜ record { answer = r; out = now (out .exit) } ≡ unionOf lim room (now (out .entry)) (sourcesIn (lent (now («all_segments» .entry)) (now («all_views» .entry)) (now («all_runs» .entry)) (now («all_borrows» .entry)) (now («all_ids» .entry)) (now («all_pool» .entry))) (now (rows .entry)) n) (uuidsOf (now (fresh .entry))) ⌝ }
@@ -223,9 +228,6 @@ fn union_within(
         all_pool,
         fresh,
         lent_fresh,
-        prefixes,
-        owned,
-        groups,
         sets,
         &mut to_segments[..a],
         &mut to_views[..b],
@@ -252,9 +254,6 @@ pub fn union_lent(
     fresh: &[u64],
     lent_fresh: &mut [u64],
     room: Fill,
-    prefixes: &mut [u64],
-    owned: &mut [u64],
-    groups: &mut [u64],
     sets: &mut [u64],
     to_segments: &mut [u64],
     to_views: &mut [u64],
@@ -264,7 +263,7 @@ pub fn union_lent(
     to_pool: &mut [u8],
     out: &mut [u8],
 ) -> Written
-    requires { ⌜ (n ≤ mostSources) × (n * 22 ≤ length (now rows)) × (sourcesJudged lim (lent (now «all_segments») (now «all_views») (now «all_runs») (now «all_borrows») (now «all_ids») (now «all_pool»)) (now rows) n ≡ Lawful) × (workShort lim (length (now prefixes)) (length (now owned)) (length (now groups)) (length (now sets)) ≡ false) ⌝ }
+    requires { ⌜ (n ≤ mostSources) × (n * 22 ≤ length (now rows)) × (sourcesJudged lim (lent (now «all_segments») (now «all_views») (now «all_runs») (now «all_borrows») (now «all_ids») (now «all_pool»)) (now rows) n ≡ Lawful) × (ownShort lim (length (now sets)) ≡ false) ⌝ }
     requires { ⌜ length (now fresh) + lim .fill .borrows * 2 ≤ length (now «lent_fresh») ⌝ }
     requires { ⌜ fits (lim .fill) (roomOf (lent (now «to_segments») (now «to_views») (now «to_runs») (now «to_borrows») (now «to_ids») (now «to_pool»))) ≡ true ⌝ }
     ensures { λ r. ⌜ record { answer = r; out = now (out .exit) } ≡ unionOf lim room (now (out .entry)) (sourcesIn (lent (now («all_segments» .entry)) (now («all_views» .entry)) (now («all_runs» .entry)) (now («all_borrows» .entry)) (now («all_ids» .entry)) (now («all_pool» .entry))) (now (rows .entry)) n) (uuidsOf (now (fresh .entry))) ⌝ }
@@ -283,9 +282,6 @@ pub fn union_lent(
         fresh,
         lent_fresh,
         room,
-        prefixes,
-        owned,
-        groups,
         sets,
         to_segments,
         to_views,

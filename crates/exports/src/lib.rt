@@ -15,6 +15,7 @@ pub use calls_made::room_fill;
 pub use calls_made::selected_answer;
 use calls_made::uuid_arg;
 pub use calls_made::written_answer;
+use encoded_merge::Side;
 use records::Refusal;
 use records::limits_01;
 ghost use mathlib.Core.Path.{_≡_};
@@ -179,7 +180,8 @@ pub extern "C" fn manifest_merge_from_writer(
 {
     let lim = limits_01();
     let most = room_fill(room);
-    let w = encoded_merge::merge_from_writer(
+    let w = encoded_merge::merge(
+        Side::Writer,
         lim,
         writer,
         compactor,
@@ -225,7 +227,8 @@ pub extern "C" fn manifest_merge_from_compactor(
 {
     let lim = limits_01();
     let most = room_fill(room);
-    let w = encoded_merge::merge_from_compactor(
+    let w = encoded_merge::merge(
+        Side::Compactor,
         lim,
         writer,
         compactor,

@@ -1,5 +1,5 @@
-// The entry point of union. It stands by itself, since a call with thirty slices costs the prover more than half as much as the nine
-// others together; programs link both archives.
+// The entry point of union. It stands by itself, since a call with twenty slices costs the prover half as much as the nine others together;
+// programs link both archives.
 use exports::Answer;
 use exports::room_fill;
 use exports::written_answer;
@@ -8,17 +8,17 @@ ghost use mathlib.Core.Path.{_≡_};
 ghost use mathlib.Core.List.{[]};
 ghost use lib.ListN.{length};
 ghost use Rattle.records.specs.Limits.{limits01};
-ghost use Rattle.unite_judge.specs.Judging.{workShort};
 ghost use Rattle.manifest_rows.specs.Stored.{lent};
 ghost use Rattle.encoded_union.specs.Union.{unionTo};
+ghost use Rattle.encoded_united.specs.Lists.{ownShort};
 ghost use Rattle.exports.specs.Replies.{wroteReply};
 ghost use Rattle.exports.specs.Arguments.{roomFill};
 
 // The union of up to eight manifests: 0, and how many bytes of `out` it fills. Source k is the k-th part of `s`, its path the k-th part of
 // `paths` and its checkpoint the k-th pair of `checkpoints`; `ends` and `path_ends` say where each part ends. A fresh UUID for each borrow of
 // the union stands in `fresh`, two words each. The tables whose names begin with `all` have room for eight manifests, their pool for the
-// bytes of `paths` too, `lent_fresh` for the fresh UUIDs and twice a manifest's borrows, those whose names begin with `to` for the union. For
-// eight manifests within the limits `prefixes` holds the segments' prefixes, `owned` the ids of one's views, `groups` and `sets` the borrows.
+// bytes of `paths` too, `lent_fresh` for the fresh UUIDs and twice a manifest's borrows, `sets` for the id sets of the borrows of eight
+// manifests within the limits. The five tables without such a name serve each source and then the union, whose bytes stand in `to_pool`.
 #[no_mangle]
 pub extern "C" fn manifest_union(
     s: &[u8],
@@ -40,19 +40,11 @@ pub extern "C" fn manifest_union(
     all_ids: &mut [u64],
     all_pool: &mut [u8],
     lent_fresh: &mut [u64],
-    prefixes: &mut [u64],
-    owned: &mut [u64],
-    groups: &mut [u64],
     sets: &mut [u64],
-    to_segments: &mut [u64],
-    to_views: &mut [u64],
-    to_runs: &mut [u64],
-    to_borrows: &mut [u64],
-    to_ids: &mut [u64],
     to_pool: &mut [u8],
     out: &mut [u8],
 ) -> Answer
-    ensures { λ r. ⌜ record { answer = r; out = now (out .exit) } ≡ wroteReply (unionTo limits01 (now (s .entry)) (now (ends .entry)) (now (paths .entry)) (now («path_ends» .entry)) (now (checkpoints .entry)) (now (fresh .entry)) (roomFill (now (room .entry))) (lent (now (segments .entry)) (now (views .entry)) (now (runs .entry)) (now (borrows .entry)) (now (ids .entry)) []) (lent (now («all_segments» .entry)) (now («all_views» .entry)) (now («all_runs» .entry)) (now («all_borrows» .entry)) (now («all_ids» .entry)) (now («all_pool» .entry))) (length (now («lent_fresh» .entry))) (workShort limits01 (length (now (prefixes .entry))) (length (now (owned .entry))) (length (now (groups .entry))) (length (now (sets .entry)))) (lent (now («to_segments» .entry)) (now («to_views» .entry)) (now («to_runs» .entry)) (now («to_borrows» .entry)) (now («to_ids» .entry)) (now («to_pool» .entry))) (now (out .entry))) ⌝ }
+    ensures { λ r. ⌜ record { answer = r; out = now (out .exit) } ≡ wroteReply (unionTo limits01 (now (s .entry)) (now (ends .entry)) (now (paths .entry)) (now («path_ends» .entry)) (now (checkpoints .entry)) (now (fresh .entry)) (roomFill (now (room .entry))) (lent (now (segments .entry)) (now (views .entry)) (now (runs .entry)) (now (borrows .entry)) (now (ids .entry)) []) (lent (now («all_segments» .entry)) (now («all_views» .entry)) (now («all_runs» .entry)) (now («all_borrows» .entry)) (now («all_ids» .entry)) (now («all_pool» .entry))) (length (now («lent_fresh» .entry))) (ownShort limits01 (length (now (sets .entry)))) (lent (now (segments .entry)) (now (views .entry)) (now (runs .entry)) (now (borrows .entry)) (now (ids .entry)) (now («to_pool» .entry))) (now (out .entry))) ⌝ }
 {
     let lim = limits_01();
     let most = room_fill(room);
@@ -77,15 +69,7 @@ pub extern "C" fn manifest_union(
         all_ids,
         all_pool,
         lent_fresh,
-        prefixes,
-        owned,
-        groups,
         sets,
-        to_segments,
-        to_views,
-        to_runs,
-        to_borrows,
-        to_ids,
         to_pool,
         out,
     );

@@ -1,5 +1,5 @@
 // Plays the unions of a fixed list of calls through their entry point, as crates/replay does the other calls: of tests/data/replay.txt
-// tools/replay.py makes stdin and, of the original's answers, stdout. It is a program by itself, since a call with thirty slices costs
+// tools/replay.py makes stdin and, of the original's answers, stdout. It is a program by itself, since a call with some twenty slices costs
 // the prover as much as many with fewer. Its form: stdin is a row of MessagePack's byte strings, one for each union. In it stand three
 // more: the manifests one after the other, the paths so, and a row of numbers, which says where its four lists are.
 // replays: union
@@ -66,7 +66,7 @@ fn put_answer(a: Answer, out: &[u8]) {
 }
 
 // The call, with what L1 allows as room, in tables for one source, for all of eight with 512 bytes of paths, for 512 words of fresh
-// ids and twice a manifest's borrows, for prefixes, owned ids, groups and their sets, and for the result. Each is lent once, and the caller
+// ids and twice a manifest's borrows, for the ids of its groups, and for the result's bytes. Each is lent once, and the caller
 // prints: what is lent again, or passed on by one function more, costs the prover as much again.
 fn unite(
     s: &[u8],
@@ -97,15 +97,7 @@ fn unite(
         &mut [0u64; 8192],
         &mut [0u8; 66048],
         &mut [0u64; 576],
-        &mut [0u64; 1024],
-        &mut [0u64; 1024],
-        &mut [0u64; 1584],
         &mut [0u64; 16384],
-        &mut [0u64; 768],
-        &mut [0u64; 8192],
-        &mut [0u64; 384],
-        &mut [0u64; 288],
-        &mut [0u64; 1024],
         &mut [0u8; 8192],
         out,
     )

@@ -291,17 +291,11 @@ enum {
     MANIFEST_ALL_BYTES = MANIFEST_SOURCES * (MANIFEST_BYTES + MANIFEST_PATH),
     /* The words of `fresh`, and of twice as many borrows as a manifest may have: enough where `fresh` has no more than 32 UUIDs. */
     MANIFEST_FRESH_WORDS = 2 * MANIFEST_BORROWS + 2 * MANIFEST_BORROWS,
-    /* Where each prefix stands. */
-    MANIFEST_PREFIX_WORDS = MANIFEST_SOURCES * MANIFEST_SEGMENTS * 2,
-    /* The ids that one manifest uses. */
-    MANIFEST_OWNED_WORDS = MANIFEST_VIEWS * 2,
-    /* Each manifest's borrows, and one more for its own ids: six words for each. */
-    MANIFEST_GROUP_WORDS = MANIFEST_SOURCES * (MANIFEST_BORROWS + 1) * 6,
-    /* The ids of all of these. */
+    /* Each manifest's borrowed ids, and those that it uses. */
     MANIFEST_SET_WORDS = MANIFEST_SOURCES * (MANIFEST_IDS + MANIFEST_VIEWS) * 2
 };
 
-/* The working memory of a union beside a struct manifest_work and a struct manifest_result. Some 910 kB. */
+/* The working memory of a union beside a struct manifest_work: tables for all sources, and a pool for the result. Some 890 kB. */
 struct manifest_all {
     uint64_t segments[MANIFEST_SOURCES * MANIFEST_SEGMENT_WORDS];
     uint64_t views[MANIFEST_SOURCES * MANIFEST_VIEW_WORDS];
@@ -310,10 +304,8 @@ struct manifest_all {
     uint64_t ids[MANIFEST_SOURCES * MANIFEST_ID_WORDS];
     uint8_t pool[MANIFEST_ALL_BYTES];
     uint64_t fresh[MANIFEST_FRESH_WORDS];
-    uint64_t prefixes[MANIFEST_PREFIX_WORDS];
-    uint64_t owned[MANIFEST_OWNED_WORDS];
-    uint64_t groups[MANIFEST_GROUP_WORDS];
     uint64_t sets[MANIFEST_SET_WORDS];
+    uint8_t to_pool[MANIFEST_BYTES];
 };
 
 /* A struct manifest_all behind a pointer, as arguments of a call. */
@@ -322,16 +314,15 @@ struct manifest_all {
         MANIFEST_SOURCES * MANIFEST_VIEW_WORDS, (a)->runs, MANIFEST_SOURCES * MANIFEST_RUN_WORDS,    \
         (a)->borrows, MANIFEST_SOURCES * MANIFEST_BORROW_WORDS, (a)->ids,                            \
         MANIFEST_SOURCES * MANIFEST_ID_WORDS, (a)->pool, MANIFEST_ALL_BYTES, (a)->fresh,             \
-        MANIFEST_FRESH_WORDS, (a)->prefixes, MANIFEST_PREFIX_WORDS, (a)->owned,                      \
-        MANIFEST_OWNED_WORDS, (a)->groups, MANIFEST_GROUP_WORDS, (a)->sets, MANIFEST_SET_WORDS
+        MANIFEST_FRESH_WORDS, (a)->sets, MANIFEST_SET_WORDS, (a)->to_pool, MANIFEST_BYTES
 
 /* The union of up to eight manifests, at the front of `out`. `first`: how many bytes.
  * The manifests stand one after the other in `s`, their paths in `paths`; `ends` and `path_ends` say for each where it ends, the first
  * from 0 on. Ids are two words each, the high one first: a checkpoint for each manifest in `checkpoints`, and in `fresh` the fresh UUIDs, one
  * for each borrow of the result, at most 32 of use. No sources at all are a call too. More than eight, an end before the one before it or
  * past the bytes, a manifest or path that is too long, and another number of paths or checkpoints than of manifests are refusal 2.
- * The arguments after `room` are those of MANIFEST_WORK, MANIFEST_ALL and MANIFEST_RESULT, then `out`. Places of 18 and 19 count from the
- * start of that manifest. */
+ * The arguments after `room` are those of MANIFEST_WORK and MANIFEST_ALL, then `out`. The result is laid out in the working tables, once
+ * all sources are read. Places of 18 and 19 count from the start of that manifest. */
 struct manifest_answer manifest_union(
     const uint8_t *s, size_t s_len,
     const uint64_t *ends, size_t ends_len,
@@ -352,15 +343,7 @@ struct manifest_answer manifest_union(
     uint64_t *all_ids, size_t all_ids_len,
     uint8_t *all_pool, size_t all_pool_len,
     uint64_t *lent_fresh, size_t lent_fresh_len,
-    uint64_t *prefixes, size_t prefixes_len,
-    uint64_t *owned, size_t owned_len,
-    uint64_t *groups, size_t groups_len,
     uint64_t *sets, size_t sets_len,
-    uint64_t *to_segments, size_t to_segments_len,
-    uint64_t *to_views, size_t to_views_len,
-    uint64_t *to_runs, size_t to_runs_len,
-    uint64_t *to_borrows, size_t to_borrows_len,
-    uint64_t *to_ids, size_t to_ids_len,
     uint8_t *to_pool, size_t to_pool_len,
     uint8_t *out, size_t out_len);
 

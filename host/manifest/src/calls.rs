@@ -205,9 +205,8 @@ impl Lent {
                 path_ends.as_ptr(), path_ends.len(), checkpoints.as_ptr(), checkpoints.len(),
                 fresh.as_ptr(), fresh.len(), &room,
             ]
-            rows self.work, rows all.sources.rows, all.sources.pool, all.fresh,
-            all.prefixes, all.owned, all.groups, all.sets,
-            rows self.result.rows, self.result.pool, self.out
+            rows self.work, rows all.sources.rows, all.sources.pool, all.fresh, all.sets,
+            self.result.pool, self.out
         )?;
         Ok(&self.out[..answer.first])
     }

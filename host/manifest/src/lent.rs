@@ -77,13 +77,10 @@ impl Tables {
     }
 }
 
-/// The memory of a union: all sources, its list of fresh UUIDs, prefixes, one source's own ids, groups of borrows and their id sets.
+/// The memory of a union: all sources, its list of fresh UUIDs, and the ids of its groups of borrows.
 pub struct All {
     pub sources: Tables,
     pub fresh: Vec<u64>,
-    pub prefixes: Vec<u64>,
-    pub owned: Vec<u64>,
-    pub groups: Vec<u64>,
     pub sets: Vec<u64>,
 }
 
@@ -92,9 +89,6 @@ impl Default for All {
         All {
             sources: Tables::of(SOURCES),
             fresh: vec![],
-            prefixes: vec![0; SOURCES * 64 * 2],
-            owned: vec![0; 512 * 2],
-            groups: vec![0; SOURCES * (32 + 1) * 6],
             sets: vec![0; SOURCES * (512 + 512) * 2],
         }
     }

@@ -2,7 +2,7 @@
 
 use crate::lent::{byte, word, Lent};
 use crate::promises::{require, Broken};
-use crate::slices::{lend, shorten, All, Results, Rows, Slice, FRESH, POOL, ROWS, UNITED, USED};
+use crate::slices::{lend, shorten, All, Results, Rows, Slice, FRESH, POOL, ROWS, SETS, USED};
 use manifest::{ENCODED, SOURCES};
 
 /// The most places lent for owned ids, some more than any manifest owns.
@@ -25,7 +25,7 @@ pub struct Host {
     all: [Lent<u64>; 5],
     all_pool: Lent<u8>,
     fresh: Lent<u64>,
-    united: [Lent<u64>; 4],
+    sets: Lent<u64>,
     pub out: Lent<u8>,
     pub ids: Lent<u64>,
     pub answered: u64,
@@ -47,7 +47,7 @@ impl Default for Host {
             all: rows(SOURCES),
             all_pool: Lent::new(SOURCES * (POOL + PATH), byte),
             fresh: Lent::new(FRESH, word),
-            united: UNITED.map(|count| Lent::new(count, word)),
+            sets: Lent::new(SETS, word),
             out: Lent::new(ENCODED, byte),
             ids: Lent::new(2 * PLACES + 1, word),
             answered: 0,
@@ -117,28 +117,29 @@ impl Host {
             rows: lend(&mut self.all, ROWS.map(|count| SOURCES * count), fresh),
             pool: Slice::of(pool),
         };
-        let united = lend(&mut self.united, UNITED, fresh);
-        All { sources, fresh: Slice::of(self.fresh.as_left()), united }
+        let sets = Slice::of(if fresh { self.sets.filled(SETS) } else { self.sets.as_left() });
+        All { sources, fresh: Slice::of(self.fresh.as_left()), sets }
     }
 
-    /// One of them a cell too short.
-    pub fn short_all(&mut self) -> All {
-        let short = self.turn(11);
+    /// One of them, or the pool of the result, a cell too short.
+    pub fn short_all(&mut self) -> (All, Slice<u8>) {
+        let short = self.turn(9);
         let pool = Slice::of(self.all_pool.as_left_or_short(short == 5));
         let sources = Results { rows: shorten(&mut self.all, short), pool };
         let fresh = Slice::of(self.fresh.as_left_or_short(short == 6));
-        All { sources, fresh, united: shorten(&mut self.united, short.wrapping_sub(7)) }
+        let sets = Slice::of(self.sets.as_left_or_short(short == 7));
+        (All { sources, fresh, sets }, Slice::of(self.pool.as_left_or_short(short == 8)))
     }
 
     /// Nothing was written beside what is lent, the outputs apart.
     pub fn guarded(&self) -> Result<(), Broken> {
         let one = self.rows.iter().chain(&self.results);
-        let mut tables = one.chain(&self.both).chain(&self.all).chain(&self.united);
+        let mut tables = one.chain(&self.both).chain(&self.all);
         let pools = self.pool.guarded()
             && self.both_pool.guarded()
             && self.behind.guarded()
             && self.all_pool.guarded();
-        let kept = tables.all(Lent::guarded) && pools && self.used.guarded() && self.fresh.guarded();
+        let kept = tables.all(Lent::guarded) && pools && self.used.guarded() && self.fresh.guarded() && self.sets.guarded();
         require(kept, "something was written beside the working tables")
     }
 

@@ -15,8 +15,8 @@ pub const USED: usize = 512 * 2;
 /// Words behind a union's fresh UUIDs: for twice as many borrows as a manifest may have.
 pub const FRESH: usize = 32 * 2;
 
-/// Words of a union's working memory for eight sources: prefixes, a source's own ids, groups of borrows, id sets.
-pub const UNITED: [usize; 4] = [SOURCES * 64 * 2, 512 * 2, SOURCES * (32 + 1) * 6, SOURCES * (512 + 512) * 2];
+/// Words of the ids of a union's groups of borrows, for eight sources.
+pub const SETS: usize = SOURCES * (512 + 512) * 2;
 
 /// A slice that an entry point may write, as it takes it.
 pub struct Slice<T> {
@@ -39,11 +39,11 @@ pub struct Results {
     pub pool: Slice<u8>,
 }
 
-/// A union's working memory: tables for all sources, the list of fresh UUIDs, and the four of [`UNITED`].
+/// A union's working memory: tables for all sources, the list of fresh UUIDs, and its groups' ids.
 pub struct All {
     pub sources: Results,
     pub fresh: Slice<u64>,
-    pub united: [Slice<u64>; 4],
+    pub sets: Slice<u64>,
 }
 
 /// An entry point on what it is given to read, and then on the slices that it may write: `rows` stands before five of them.

@@ -13,7 +13,7 @@ shared-slice-read-ix : tie.Need-shared-slice-read-ix
 shared-slice-read-ix c = search needs
 
 ix-requires : tie.Need-ix-requires
-ix-requires c κs = search needs
+ix-requires c κs = tt
 
 returns : tie.Need-returns
 returns c = search (bad-falls, needs)

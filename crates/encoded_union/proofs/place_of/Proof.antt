@@ -12,7 +12,7 @@ shared-slice-read-ix : tie.Need-shared-slice-read-ix
 shared-slice-read-ix c = search needs
 
 ix-requires : tie.Need-ix-requires
-ix-requires c κs = search needs
+ix-requires c κs = tt
 
 sub-t5 : tie.Need-sub-t5
 sub-t5 c = search needs

@@ -3,7 +3,7 @@ use Rattle.encoded_union.proofs.put_source.Statement.{statement}
 use Rattle.encoded_union.proofs.put_source.Tie as tie
 
 source-words-requires : tie.Need-source-words-requires
-source-words-requires c κs = search needs
+source-words-requires c κs = tt
 
 slice-aggregate-put-words : tie.Need-slice-aggregate-put-words
 slice-aggregate-put-words c = search needs
@@ -12,7 +12,7 @@ put-words-requires : tie.Need-put-words-requires
 put-words-requires c κs = search needs
 
 same-length : tie.Need-same-length
-same-length c = search needs
+same-length c = c .before .before .put-words .kept .1 .0
 
 returns : tie.Need-returns
 returns c = rw (← c .before .before .before .before .before .source-words .ensures) (c .before .before .put-words .ensures)

@@ -5,13 +5,13 @@ use Rattle.encoded_union.proofs.source_words.Statement.{statement}
 use Rattle.encoded_union.proofs.source_words.Tie as tie
 
 name-code-requires : tie.Need-name-code-requires
-name-code-requires c κs = search needs
+name-code-requires c κs = tt
 
 name-place-requires : tie.Need-name-place-requires
-name-place-requires c κs = search needs
+name-place-requires c κs = tt
 
 segment-words-requires : tie.Need-segment-words-requires
-segment-words-requires c κs = search needs
+segment-words-requires c κs = tt
 
 array-read-t13 : tie.Need-array-read-t13
 array-read-t13 c = search needs

@@ -17,7 +17,7 @@ shared-slice-read-ix : tie.Need-shared-slice-read-ix
 shared-slice-read-ix c = search needs
 
 ix-requires : tie.Need-ix-requires
-ix-requires c κs = search needs
+ix-requires c κs = tt
 
 returns-2 : tie.Need-returns-2
 returns-2 c = start-later _ _ _ _ (c .before .before .if1 .left) refl (c .ix .ensures)

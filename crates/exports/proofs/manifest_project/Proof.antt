@@ -6,28 +6,28 @@ use Rattle.exports.proofs.manifest_project.Statement.{statement}
 use Rattle.exports.proofs.manifest_project.Tie as tie
 
 global-odd-requires : tie.Need-global-odd-requires
-global-odd-requires c κs = search needs
+global-odd-requires c κs = tt
 
 refused-answer-requires : tie.Need-refused-answer-requires
-refused-answer-requires c κs = search needs
+refused-answer-requires c κs = tt
 
 returns : tie.Need-returns
 returns c = rw (c .refused-answer .ensures) (ap projectReply (project-odd _ _ _ _ _ _ _ _ _ _ _ (sym (c .before .before .global-odd .ensures) ∙ c .before .if1 .taken)))
 
 limits-01-requires : tie.Need-limits-01-requires
-limits-01-requires c κs = search needs
+limits-01-requires c κs = tt
 
 config-arg-requires : tie.Need-config-arg-requires
-config-arg-requires c κs = search needs
+config-arg-requires c κs = tt
 
 room-fill-requires : tie.Need-room-fill-requires
-room-fill-requires c κs = search needs
+room-fill-requires c κs = tt
 
 project-requires : tie.Need-project-requires
-project-requires c κs = search needs
+project-requires c κs = tt
 
 projected-answer-requires : tie.Need-projected-answer-requires
-projected-answer-requires c κs = search needs
+projected-answer-requires c κs = tt
 
 same-length : tie.Need-same-length
 same-length c = c .before .before .before .before .before .before .before .before .before .before .before .before .before .before .before .before .before .before .before .before .before .before .before .before .before .before .before .before .before .project .kept .1 .1 .1 .1 .1 .1 .0

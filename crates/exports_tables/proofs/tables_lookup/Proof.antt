@@ -7,16 +7,16 @@ use Rattle.exports_tables.proofs.tables_lookup.Statement.{statement}
 use Rattle.exports_tables.proofs.tables_lookup.Tie as tie
 
 limits-01-requires : tie.Need-limits-01-requires
-limits-01-requires c κs = search needs
+limits-01-requires c κs = tt
 
 head-at-requires : tie.Need-head-at-requires
-head-at-requires c κs = search needs
+head-at-requires c κs = tt
 
 tree-for-segment-requires : tie.Need-tree-for-segment-requires
-tree-for-segment-requires c κs = search needs
+tree-for-segment-requires c κs = tt
 
 looked-answer-requires : tie.Need-looked-answer-requires
-looked-answer-requires c κs = search needs
+looked-answer-requires c κs = tt
 
 returns : tie.Need-returns
 returns c = c .looked-answer .ensures ∙ ap (λ x. told (looked x)) (rw (c .before .before .before .limits-01 .ensures, c .before .before .head-at .ensures, toZ-ofZ (c .before .before .before .before .before .before .before .before .before .before .before .fits .tick)) at (c .before .tree-for-segment .ensures))

@@ -3,7 +3,7 @@
 
 use super::{is, Fault};
 use crate::promises::NO_ROOM;
-use crate::slices::{FRESH, POOL, ROWS, UNITED};
+use crate::slices::{FRESH, POOL, ROWS, SETS};
 use manifest::c::Answer;
 use manifest::{ENCODED, SOURCES};
 use std::slice;
@@ -185,43 +185,24 @@ unsafe extern "C" fn manifest_union(
     all_pool_len: usize,
     lent_fresh: *mut u64,
     lent_fresh_len: usize,
-    _: *mut u64,
-    prefixes: usize,
-    _: *mut u64,
-    owned: usize,
-    _: *mut u64,
-    groups: usize,
     sets: *mut u64,
     sets_len: usize,
-    _: *mut u64,
-    to_segments: usize,
-    _: *mut u64,
-    to_views: usize,
-    to_table: *mut u64,
-    to_runs: usize,
-    _: *mut u64,
-    to_borrows: usize,
-    _: *mut u64,
-    to_ids: usize,
     to_pool: *mut u8,
     to_pool_len: usize,
     out: *mut u8,
     out_len: usize,
 ) -> Answer {
-    spoil(Fault::WritesPastAResultTable, to_table.add(to_runs).cast());
     spoil(Fault::WritesPastThePool, to_pool.add(to_pool_len));
     spoil(Fault::WritesPastTheSourcesPool, all_pool.add(all_pool_len));
     spoil(Fault::WritesPastTheSets, sets.add(sets_len).cast());
     spoil(Fault::WritesPastTheFresh, lent_fresh.add(lent_fresh_len).cast());
     let all = [all_segments, all_views, all_runs, all_borrows, all_ids];
-    let to = [to_segments, to_views, to_runs, to_borrows, to_ids];
     let long = long_enough(Fault::TakesShortTables, [segments, views, runs, borrows, ids], ROWS)
-        && long_enough(Fault::TakesShortResults, to, ROWS)
-        && long_enough(Fault::TakesShortResults, [to_pool_len], [POOL])
+        && long_enough(Fault::TakesAShortPool, [to_pool_len], [POOL])
         && long_enough(Fault::TakesShortSources, all, ROWS.map(|count| SOURCES * count))
         && long_enough(Fault::TakesShortSources, [all_pool_len], [SOURCES * POOL + paths])
         && long_enough(Fault::TakesAShortFresh, [lent_fresh_len], [fresh + FRESH])
-        && long_enough(Fault::TakesShortSets, [prefixes, owned, groups, sets_len], UNITED);
+        && long_enough(Fault::TakesShortSets, [sets_len], [SETS]);
     if !long {
         return NO_ROOM;
     }

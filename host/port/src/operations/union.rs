@@ -3,7 +3,7 @@
 use crate::given::Given;
 use crate::host::Host;
 use crate::promises::{wrote, Told};
-use crate::slices::{call, All, Results, Rows, Slice};
+use crate::slices::{call, All, Rows, Slice};
 use crate::words::{self, id, Room};
 use manifest::c;
 
@@ -39,8 +39,7 @@ impl Host {
         let (s, ends) = (Given::of(&given.manifests), Given::of(&given.ends));
         let (paths, path_ends) = (Given::of(&given.paths), Given::of(&given.path_ends));
         let checkpoints = Given::of(&given.checkpoints);
-        let call = |all: &All, to: &Results, rows: &Rows, out: &Slice<u8>| {
-            let [prefixes, owned, groups, sets] = &all.united;
+        let call = |all: &All, pool: &Slice<u8>, rows: &Rows, out: &Slice<u8>| {
             call!(
                 c::manifest_union,
                 [
@@ -48,22 +47,20 @@ impl Host {
                     path_ends.as_ptr(), path_ends.len(), checkpoints.as_ptr(), checkpoints.len(),
                     fresh.as_ptr(), fresh.len(), room,
                 ]
-                rows rows, rows all.sources.rows, all.sources.pool, all.fresh, prefixes, owned, groups, sets,
-                rows to.rows, to.pool, out
+                rows rows, rows all.sources.rows, all.sources.pool, all.fresh, all.sets, pool, out
             )
         };
         self.hold_fresh(fresh.len());
-        let (all, to) = (self.all(paths.len()), self.results());
+        let (all, pool) = (self.all(paths.len()), self.results().pool);
         let (answer, result) =
-            self.written(s.len(), |answer| answer.first, |rows, out| call(&all, &to, rows, out))?;
+            self.written(s.len(), |answer| answer.first, |rows, out| call(&all, &pool, rows, out))?;
         if self.probes() {
-            self.result_too_short(answer, |to, rows, out| call(&all, to, rows, out))?;
-            let short = self.short_all();
+            let (all, pool) = self.short_all();
             let why = "no refusal 4 for a table of all sources that is too short";
-            self.other_too_short(answer, why, |rows, out| call(&short, &to, rows, out))?;
+            self.other_too_short(answer, why, |rows, out| call(&all, &pool, rows, out))?;
             if answer.number == 16 {
-                let all = self.all(paths.len());
-                self.room_before_fresh(|rows, out| call(&all, &to, rows, out))?;
+                let (all, pool) = (self.all(paths.len()), self.results().pool);
+                self.room_before_fresh(|rows, out| call(&all, &pool, rows, out))?;
             }
         }
         wrote(answer, &result)

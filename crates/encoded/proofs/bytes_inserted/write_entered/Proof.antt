@@ -13,13 +13,13 @@ enum-known-x : tie.Need-enum-known-x
 enum-known-x c = search needs
 
 same-length : tie.Need-same-length
-same-length c = search needs
+same-length c = c .before .before .before .before .before .write-judged .kept .1 .1 .1 .1 .1 .1 .1 .0
 
 returns : tie.Need-returns
 returns c = wrote-done _ _ _ _ (c .before .before .before .before .before .write-judged .ensures) _ (c .before .n .given .1)
 
 same-length-2 : tie.Need-same-length-2
-same-length-2 c = search needs
+same-length-2 c = c .before .before .before .before .before .write-judged .kept .1 .1 .1 .1 .1 .1 .1 .0
 
 returns-2 : tie.Need-returns-2
 returns-2 c = wrote-refused _ _ _ _ (c .before .before .before .before .before .write-judged .ensures) _ (c .before .x .given .1)

@@ -1,7 +1,8 @@
-use mathlib.Core.Path.{sym, _∙_}
+use mathlib.Core.Path.{sym, ap, _∙_}
 use borrow.Author.Tests.{lt-ltb, le-ltb}
+use Rattle.encoded.specs.Encoded.{on}
+use Rattle.encoded.specs.Read.{refusedWith, givenOf}
 use Rattle.encoded.proofs.Writes.{read-long, read-short, read-bytes}
-use borrow.Author.Needs.{needs}
 use Rattle.encoded.proofs.bytes_read.read.Statement.{statement}
 use Rattle.encoded.proofs.bytes_read.read.Tie as tie
 
@@ -9,49 +10,37 @@ returns : tie.Need-returns
 returns c = read-long _ _ _ _ _ (lt-ltb _ _ (c .if1 .taken))
 
 has-tables-requires : tie.Need-has-tables-requires
-has-tables-requires c κs = search needs
+has-tables-requires c κs = tt
 
-rewrite-requires : tie.Need-rewrite-requires
-rewrite-requires c κs = sym (c .before .before .before .before .before .before .before .has-tables .ensures) ∙ c .before .before .before .before .before .before .if2 .taken
+rows-of-requires : tie.Need-rows-of-requires
+rows-of-requires c κs = sym (c .before .before .before .before .before .before .has-tables .ensures) ∙ c .before .before .before .before .before .if2 .taken
+
+write-rows-requires : tie.Need-write-rows-requires
+write-rows-requires c κs = tt
 
 same-length : tie.Need-same-length
-same-length c = search needs
+same-length c = c .before .before .before .before .before .before .before .before .before .before .before .before .before .before .before .before .before .before .before .rows-of .kept .1 .1 .0
 
 same-length-2 : tie.Need-same-length-2
-same-length-2 c = search needs
+same-length-2 c = c .before .before .before .before .before .before .before .before .before .before .before .before .before .before .before .before .before .before .before .rows-of .kept .1 .1 .1 .0
 
 same-length-3 : tie.Need-same-length-3
-same-length-3 c = search needs
+same-length-3 c = c .before .before .before .before .before .before .before .before .before .before .before .before .before .before .before .before .before .before .before .rows-of .kept .1 .1 .1 .1 .0
 
 same-length-4 : tie.Need-same-length-4
-same-length-4 c = search needs
+same-length-4 c = c .before .before .before .before .before .before .before .before .before .before .before .before .before .before .before .before .before .before .before .rows-of .kept .1 .1 .1 .1 .1 .0
 
 same-length-5 : tie.Need-same-length-5
-same-length-5 c = search needs
+same-length-5 c = c .before .before .before .before .before .before .before .before .before .before .before .before .before .before .before .before .before .before .before .rows-of .kept .1 .1 .1 .1 .1 .1 .0
 
 same-length-6 : tie.Need-same-length-6
-same-length-6 c = search needs
+same-length-6 c = c .before .before .write-rows .kept .1 .1 .1 .1 .1 .1 .1 .1 .1 .0
 
 returns-2 : tie.Need-returns-2
-returns-2 c = c .before .before .before .before .before .before .before .before .before .before .before .before .rewrite .ensures ∙ read-bytes _ _ _ _ _ (le-ltb _ _ (c .before .before .before .before .before .before .before .before .before .before .before .before .before .before .before .before .before .before .before .before .before .before .before .before .before .before .if1 .left)) (sym (c .before .before .before .before .before .before .before .before .before .before .before .before .before .before .before .before .before .before .before .before .has-tables .ensures) ∙ c .before .before .before .before .before .before .before .before .before .before .before .before .before .before .before .before .before .before .before .if2 .taken)
-
-same-length-7 : tie.Need-same-length-7
-same-length-7 c = search needs
-
-same-length-8 : tie.Need-same-length-8
-same-length-8 c = search needs
-
-same-length-9 : tie.Need-same-length-9
-same-length-9 c = search needs
-
-same-length-10 : tie.Need-same-length-10
-same-length-10 c = search needs
-
-same-length-11 : tie.Need-same-length-11
-same-length-11 c = search needs
+returns-2 c = c .before .before .write-rows .ensures ∙ ap (on (refusedWith _) (givenOf _ _ _)) (c .before .before .before .before .before .before .before .before .before .before .before .before .before .before .before .before .before .before .before .rows-of .ensures) ∙ read-bytes _ _ _ _ _ (le-ltb _ _ (c .before .before .before .before .before .before .before .before .before .before .before .before .before .before .before .before .before .before .before .before .before .before .before .before .before .before .before .if1 .left)) (sym (c .before .before .before .before .before .before .before .before .before .before .before .before .before .before .before .before .before .before .before .before .before .before .before .before .before .before .has-tables .ensures) ∙ c .before .before .before .before .before .before .before .before .before .before .before .before .before .before .before .before .before .before .before .before .before .before .before .before .before .if2 .taken)
 
 returns-3 : tie.Need-returns-3
-returns-3 c = read-short _ _ _ _ _ (le-ltb _ _ (c .before .before .before .before .before .before .before .if1 .left)) (sym (c .before .has-tables .ensures) ∙ c .if2 .left)
+returns-3 c = read-short _ _ _ _ _ (le-ltb _ _ (c .before .before .if1 .left)) (sym (c .before .has-tables .ensures) ∙ c .if2 .left)
 
 pub read-spec : {M : Type 1} → statement M
 read-spec =
@@ -59,7 +48,8 @@ read-spec =
     (tie.spec
     returns
     has-tables-requires
-    rewrite-requires
+    rows-of-requires
+    write-rows-requires
     same-length
     same-length-2
     same-length-3
@@ -67,9 +57,4 @@ read-spec =
     same-length-5
     same-length-6
     returns-2
-    same-length-7
-    same-length-8
-    same-length-9
-    same-length-10
-    same-length-11
     returns-3)

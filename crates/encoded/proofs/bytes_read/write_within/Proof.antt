@@ -23,7 +23,7 @@ enum-told : tie.Need-enum-told
 enum-told c = search needs
 
 same-length : tie.Need-same-length
-same-length c = search needs
+same-length c = c .before .before .write-judged .kept .1 .1 .1 .1 .1 .1 .1 .0
 
 returns-2 : tie.Need-returns-2
 returns-2 c = c .before .before .write-judged .ensures ∙ within-put _ _ _ _ (c .before .before .before .before .before .before .before .before .before .measure .ensures) _ _ _ (c .before .before .before .before .before .before .before .f .given .1) _ (c .before .before .before .before .before .no-room .ensures) (c .before .before .before .before .if1 .left)

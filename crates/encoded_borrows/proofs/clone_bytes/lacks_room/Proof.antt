@@ -1,19 +1,18 @@
 use Rattle.encoded.proofs.Inserts.{lacks-all, lacks-some}
-use borrow.Author.Needs.{needs}
 use Rattle.encoded_borrows.proofs.clone_bytes.lacks_room.Statement.{statement}
 use Rattle.encoded_borrows.proofs.clone_bytes.lacks_room.Tie as tie
 
 clone-fill-requires : tie.Need-clone-fill-requires
-clone-fill-requires c κs = search needs
+clone-fill-requires c κs = c .before .before .before .before .before .before .before .pre
 
 enum-known-f : tie.Need-enum-known-f
-enum-known-f c = search needs
+enum-known-f c = c .match .keys1
 
 fits-in-requires : tie.Need-fits-in-requires
-fits-in-requires c κs = search needs
+fits-in-requires c κs = tt
 
 enum-told : tie.Need-enum-told
-enum-told c = search needs
+enum-told c = c .match .keys2
 
 returns : tie.Need-returns
 returns c = lacks-some _ _ _ _ _ (c .before .before .before .before .clone-fill .ensures) _ (c .before .before .f .given .1) _ (c .fits-in .ensures)

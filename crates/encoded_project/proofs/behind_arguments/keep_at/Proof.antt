@@ -5,10 +5,10 @@ use Rattle.encoded_project.proofs.behind_arguments.keep_at.Statement.{s
 use Rattle.encoded_project.proofs.behind_arguments.keep_at.Tie as tie
 
 fits-in-requires : tie.Need-fits-in-requires
-fits-in-requires c κs = search needs
+fits-in-requires c κs = tt
 
 lawful-requires : tie.Need-lawful-requires
-lawful-requires c κs = search needs
+lawful-requires c κs = tt
 
 enum-known-rule : tie.Need-enum-known-rule
 enum-known-rule c = search needs

@@ -6,13 +6,13 @@ use Rattle.encoded_project.proofs.behind_arguments.read_rows.Statement.
 use Rattle.encoded_project.proofs.behind_arguments.read_rows.Tie as tie
 
 fill-manifest-requires : tie.Need-fill-manifest-requires
-fill-manifest-requires c κs = search needs
+fill-manifest-requires c κs = tt
 
 enum-known-row : tie.Need-enum-known-row
 enum-known-row c = search needs
 
 config-over-requires : tie.Need-config-over-requires
-config-over-requires c κs = search needs
+config-over-requires c κs = tt
 
 same-length : tie.Need-same-length
 same-length c = c .before .before .before .before .before .before .before .before .before .before .before .before .before .before .before .before .fill-manifest .kept .1 .0

@@ -13,7 +13,7 @@ enum-known-names : tie.Need-enum-known-names
 enum-known-names c = search needs
 
 write-to-requires : tie.Need-write-to-requires
-write-to-requires c κs = search needs
+write-to-requires c κs = tt
 
 enum-known-x : tie.Need-enum-known-x
 enum-known-x c = search needs

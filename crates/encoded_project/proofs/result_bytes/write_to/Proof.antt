@@ -4,7 +4,7 @@ use Rattle.encoded_project.proofs.result_bytes.write_to.Statement.{stat
 use Rattle.encoded_project.proofs.result_bytes.write_to.Tie as tie
 
 write-judged-requires : tie.Need-write-judged-requires
-write-judged-requires c κs = search needs
+write-judged-requires c κs = tt
 
 enum-known-n : tie.Need-enum-known-n
 enum-known-n c = search needs

@@ -6,7 +6,7 @@ element-copy-out-global-arg : tie.Need-element-copy-out-global-arg
 element-copy-out-global-arg c = search needs
 
 global-arg-requires : tie.Need-global-arg-requires
-global-arg-requires c κs = search needs
+global-arg-requires c κs = tt
 
 element-copy-out-filter-arg : tie.Need-element-copy-out-filter-arg
 element-copy-out-filter-arg c = search needs
@@ -18,7 +18,7 @@ element-copy-out-filter-arg-3 : tie.Need-element-copy-out-filter-arg-3
 element-copy-out-filter-arg-3 c = search needs
 
 filter-arg-requires : tie.Need-filter-arg-requires
-filter-arg-requires c κs = search needs
+filter-arg-requires c κs = tt
 
 element-copy-out-t7 : tie.Need-element-copy-out-t7
 element-copy-out-t7 c = search needs

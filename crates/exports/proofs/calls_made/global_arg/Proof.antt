@@ -8,7 +8,7 @@ returns : tie.Need-returns
 returns c = global-unset (c .before .args .flag) (now (c .before .args .r)) (c .if1 .taken)
 
 range-arg-requires : tie.Need-range-arg-requires
-range-arg-requires c κs = search needs
+range-arg-requires c κs = tt
 
 returns-2 : tie.Need-returns-2
 returns-2 c = global-set (c .before .before .args .flag) (now (c .before .before .args .r)) _ (c .before .if1 .left) (c .range-arg .ensures)

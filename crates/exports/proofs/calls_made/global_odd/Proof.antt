@@ -11,7 +11,7 @@ returns : tie.Need-returns
 returns c = odd-none (now (c .before .before .args .f)) (now (c .before .before .args .r)) (c .if1 .taken)
 
 is-odd-requires : tie.Need-is-odd-requires
-is-odd-requires c κs = search needs
+is-odd-requires c κs = tt
 
 returns-2 : tie.Need-returns-2
 returns-2 c = odd-some (now (c .before .before .before .args .f)) (now (c .before .before .before .args .r)) _ (c .before .if1 .left) (c .is-odd .ensures)

@@ -12,7 +12,7 @@ enum-known-x-3 : tie.Need-enum-known-x-3
 enum-known-x-3 c = search needs
 
 refused-answer-requires : tie.Need-refused-answer-requires
-refused-answer-requires c κs = search needs
+refused-answer-requires c κs = tt
 
 returns : tie.Need-returns
 returns c = rw (c .before .x .given .1)

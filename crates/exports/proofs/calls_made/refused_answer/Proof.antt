@@ -5,7 +5,7 @@ use Rattle.exports.proofs.calls_made.refused_answer.Statement.{statemen
 use Rattle.exports.proofs.calls_made.refused_answer.Tie as tie
 
 tell-requires : tie.Need-tell-requires
-tell-requires c κs = search needs
+tell-requires c κs = tt
 
 returns : tie.Need-returns
 returns c = ap told (c .tell .ensures)

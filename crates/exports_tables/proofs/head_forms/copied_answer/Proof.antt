@@ -8,16 +8,16 @@ enum-known-x : tie.Need-enum-known-x
 enum-known-x c = search needs
 
 headed-answer-requires : tie.Need-headed-answer-requires
-headed-answer-requires c κs = search needs
+headed-answer-requires c κs = tt
 
 enum-known-x-2 : tie.Need-enum-known-x-2
 enum-known-x-2 c = search needs
 
 refused-answer-requires : tie.Need-refused-answer-requires
-refused-answer-requires c κs = search needs
+refused-answer-requires c κs = tt
 
 bare-answer-requires : tie.Need-bare-answer-requires
-bare-answer-requires c κs = search needs
+bare-answer-requires c κs = tt
 
 returns : tie.Need-returns
 returns c = rw (c .before .before .x .given .1) (c .headed-answer .ensures)

@@ -5,7 +5,7 @@ use Rattle.exports_tables.proofs.head_forms.head_at.Statement.{statemen
 use Rattle.exports_tables.proofs.head_forms.head_at.Tie as tie
 
 head-segments-requires : tie.Need-head-segments-requires
-head-segments-requires c κs = search needs
+head-segments-requires c κs = tt
 
 segment-at-requires : tie.Need-segment-at-requires
 segment-at-requires c κs = search needs
@@ -14,7 +14,7 @@ element-copy-out-name-of : tie.Need-element-copy-out-name-of
 element-copy-out-name-of c = search needs
 
 name-of-requires : tie.Need-name-of-requires
-name-of-requires c κs = search needs
+name-of-requires c κs = tt
 
 element-copy-out-window : tie.Need-element-copy-out-window
 element-copy-out-window c = search needs
@@ -23,7 +23,7 @@ element-copy-out-window-2 : tie.Need-element-copy-out-window-2
 element-copy-out-window-2 c = search needs
 
 window-requires : tie.Need-window-requires
-window-requires c κs = search needs
+window-requires c κs = tt
 
 element-copy-out-t14 : tie.Need-element-copy-out-t14
 element-copy-out-t14 c = search needs

@@ -4,10 +4,10 @@ use Rattle.exports_tables.proofs.head_forms.rest_words.Statement.{state
 use Rattle.exports_tables.proofs.head_forms.rest_words.Tie as tie
 
 name-word-requires : tie.Need-name-word-requires
-name-word-requires c κs = search needs
+name-word-requires c κs = tt
 
 flag-word-requires : tie.Need-flag-word-requires
-flag-word-requires c κs = search needs
+flag-word-requires c κs = tt
 
 returns : tie.Need-returns
 unfolding restWords

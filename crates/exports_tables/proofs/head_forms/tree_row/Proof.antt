@@ -3,7 +3,7 @@ use Rattle.exports_tables.proofs.head_forms.tree_row.Statement.{stateme
 use Rattle.exports_tables.proofs.head_forms.tree_row.Tie as tie
 
 name-place-requires : tie.Need-name-place-requires
-name-place-requires c κs = search needs
+name-place-requires c κs = tt
 
 returns : tie.Need-returns
 returns c = rw (c .name-place .ensures)

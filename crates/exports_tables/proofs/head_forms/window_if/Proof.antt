@@ -7,6 +7,6 @@ pub window-if-spec : {M : Type 1} → statement M
 window-if-spec =
     tie.close
     (tie.spec
-    (λ c κs. search needs)  -- window-requires
+    (λ c κs. tt)  -- window-requires
     (λ c. search (picks, needs))  -- returns
     (λ c. search (picks, needs)))  -- returns-2
