@@ -41,6 +41,7 @@ readyOf lim s t room p =
     (pick (not (fits (plus (lim .fill) (lim .fill)) room) || ltb p (lim .fill .bytes)) (No NoRoom)
     Yes)
 
+-- both manifests' rows, or the writer's refusal before the compactor's
 abbrev pub joinedOf : Copied → Copied → Both
 joinedOf (Done m) (Done n) = Are m n
 joinedOf (Done m) (Unread x) = Refused x

@@ -30,7 +30,7 @@ ghost use Rattle.encoded_union.specs.Union.{unionOf};
 ghost use Rattle.encoded_united.specs.Lists.{ownShort};
 ghost use Rattle.encoded_united.specs.Steps.{lentWords};
 
-// The words of the union's own lists, for eight sources within the limits of 0.1: two for each prefix of a segment ..
+// The words of the union's own lists, for eight sources within document 01's limits: two for each prefix of a segment ..
 pub const PREFIXES: usize = 1024;
 // .. two for each id of one source's views ..
 pub const OWNED: usize = 1024;

@@ -1,4 +1,4 @@
-// The entry point of union. It stands by itself, since a call with twenty slices costs the prover half as much as the nine others together;
+// The entry point of union. It stands by itself, since a call with twenty-one slices costs the prover half as much as the nine others together;
 // programs link both archives.
 use exports::Answer;
 use exports::room_fill;
