@@ -1,5 +1,6 @@
 pub mod Backs
 pub mod Borrows
+pub mod Cuts
 pub mod Goes
 pub mod Kept
 pub mod Manifests

@@ -1,11 +1,9 @@
 -- Trees and segments filled in. Assumes nothing.
 use Prim.Native.Nat.{ℕ, _+_, _≤_}
-use mathlib.Core.Path.{_≡_, refl}
+use mathlib.Core.Path.{_≡_, refl, _∙_}
 use mathlib.Core.List.{List}
 use native.Mathlib.Omega.{arith}
 use lib.ListN.{length}
-use Rattle.ids.specs.declared.ViewMark.{ViewMark}
-use Rattle.ids.specs.declared.SstMark.{SstMark}
 use Rattle.records.specs.Decode.{bytesIn}
 use Rattle.records.specs.Words.{treeWords, segmentWords}
 use Rattle.records.specs.declared.Place.{Place}
@@ -15,49 +13,40 @@ use Rattle.msgpack.specs.Read.{groupAt, listAt}
 use Rattle.msgpack.specs.declared.Skipped.the-variants.{Past}
 use Rattle.msgpack.specs.declared.Group.the-variants as group
 use Rattle.msgpack.proofs.Told.{group-within}
-use Rattle.manifest_values.specs.Read.{is, many, keyAt, viewAt, runAt, viewMarkAt, sstMarkAt, treeAt, segmentAt, treesAt}
+use Rattle.manifest_values.specs.Read.{is, many, keyAt, viewAt, runAt, treeAt, segmentAt, treesAt}
 use Rattle.manifest_rows.specs.declared.Cursor.{Cursor}
+use Rattle.manifest_rows.specs.declared.TreeHead.{TreeHead}
 use Rattle.manifest_rows.specs.Stored.{Laid, FilledIs, Steps, table, Under, ViewStep, two, UnderTwo, RunStep, PlaceIn, TreeStep, three, UnderThree, SegmentStep, TreesStep, start}
-use Rattle.manifest_rows.proofs.Goes.{goes, goes-view-mark, goes-sst-mark, goes-key, goes-segment, goes-many, goes-view, rest-past}
+use Rattle.manifest_rows.proofs.Cuts.{TreeBegun}
+use Rattle.manifest_rows.proofs.Goes.{goes, goes-key, goes-segment, goes-many, goes-view, rest-past}
 use Rattle.manifest_rows.proofs.Turns.{many-length}
 
 module _
-    (s : List ℕ) (at n p₀ : ℕ) (x : ViewMark) (p₁ : ℕ) (y : SstMark) (p₂ k p₃ : ℕ)
-    (e₀ : groupAt s at 4 ≡ group.Of n p₀) (e₁ : viewMarkAt s p₀ ≡ is x p₁) (e₂ : sstMarkAt s p₁ ≡ is y p₂) (e₃ : listAt s p₂ ≡ group.Of k p₃)
+    (s : List ℕ) (at : ℕ) (h : TreeHead) (p : ℕ) (b : TreeBegun s at h p (treeAt s at)) (p₁ : ℕ) (views views′ : List ℕ) (c : Cursor)
+    (f : FilledIs (Steps (ViewStep s)) Under (many (viewAt s) (h .views) p) (table views (c .inner)) (table views′ (c .inner + h .views)) p₁) (m p₂ : ℕ) (e₁ : listAt s p₁ ≡ group.Of m p₂)
   where
-    pub tree-under : (v : ℕ) → v ≤ at → v ≤ p₃
-    tree-under v h =
-        let a = group-within s at 4 n p₀ e₀ in
-        let b = goes 1 p₀ (viewMarkAt s p₀) x p₁ (goes-view-mark s p₀) e₁ in
-        let c = goes 1 p₁ (sstMarkAt s p₁) y p₂ (goes-sst-mark s p₁) e₂ in
-        let d = group-within s p₂ 0 k p₃ e₃ in
-        omega arith
+    -- both cursors, where the runs start
+    pub tree-both : (c .outer ≤ at) × (c .inner ≤ at) → (c .outer ≤ p₂) × (c .inner + h .views ≤ p₂)
+    tree-both u =
+        let x = group-within s p₁ 0 m p₂ e₁ in
+        let y = goes 0 p (many (viewAt s) (h .views) p) (f .value) p₁ (goes-many (viewAt s) (goes-view s) (h .views) p) (f .read) in
+        (omega (arith, b .past), omega (arith, f .under))
 
-    module _ (p₄ : ℕ) (views views′ : List ℕ) (v : ℕ) (f : FilledIs (Steps (ViewStep s)) Under (many (viewAt s) k p₃) (table views v) (table views′ (v + k)) p₄) (m p₅ : ℕ) (e₄ : listAt s p₄ ≡ group.Of m p₅) where
-      -- both cursors, where the runs start
-      pub tree-both : (i : ℕ) → (i ≤ at) × (v ≤ at) → (i ≤ p₅) × (v + k ≤ p₅)
-      tree-both i h =
-          let a = tree-under i (h .0) in
-          let b = group-within s p₄ 0 m p₅ e₄ in
-          let c = goes 0 p₃ (many (viewAt s) k p₃) (f .value) p₄ (goes-many (viewAt s) (goes-view s) k p₃) (f .read) in
-          (omega arith, omega (arith, f .under))
-
-      module _
-          (p₆ : ℕ) (runs runs′ views″ : List ℕ) (i : ℕ) (d : Cursor)
-          (g : FilledIs (Steps (RunStep s)) UnderTwo (many (runAt s) m p₅) (two runs views′ (record { outer = i; inner = v + k })) (two runs′ views″ d) p₆) (e : ℕ) (e₅ : restAt s p₆ n 4 ≡ Past e)
-        where
-          pub tree-filled : FilledIs (TreeStep s (record { view = x; sst = y; l0 = record { first = v; count = k }; compacted = record { first = i; count = m } })) UnderTwo (treeAt s at) (two runs views (record { outer = i; inner = v })) (two runs′ views″ d) e
-          unfolding treeAt
-          tree-filled =
-              let a : length (f .value) ≡ k = many-length (viewAt s) k p₃ (f .value) p₄ (f .read) in
-              let b : length (g .value) ≡ m = many-length (runAt s) m p₅ (g .value) p₆ (g .read) in
-              let c : p₆ ≤ e = rest-past s p₆ n 4 e e₅ in
-              record {
-                value = record { viewMark = x; sstMark = y; l0 = f .value; runs = g .value };
-                read = rw (e₀, e₁, e₂, e₃, f .read, e₄, g .read, e₅);
-                step = record { between = table views′ (v + k); l0 = f .step; runs = g .step; is = rw (a, b) };
-                under = (omega (arith, g .under .0), omega (arith, g .under .1));
-              }
+    module _
+        (p₃ : ℕ) (runs runs′ views″ : List ℕ) (d : Cursor)
+        (g : FilledIs (Steps (RunStep s)) UnderTwo (many (runAt s) m p₂) (two runs views′ (record { outer = c .outer; inner = c .inner + h .views })) (two runs′ views″ d) p₃) (e : ℕ) (e₂ : restAt s p₃ (h .parts) 4 ≡ Past e)
+      where
+        pub tree-filled : FilledIs (TreeStep s (record { view = h .view; sst = h .sst; l0 = record { first = c .inner; count = h .views }; compacted = record { first = c .outer; count = m } })) UnderTwo (treeAt s at) (two runs views c) (two runs′ views″ d) e
+        tree-filled =
+            let x : length (f .value) ≡ h .views = many-length (viewAt s) (h .views) p (f .value) p₁ (f .read) in
+            let y : length (g .value) ≡ m = many-length (runAt s) m p₂ (g .value) p₃ (g .read) in
+            let z : p₃ ≤ e = rest-past s p₃ (h .parts) 4 e e₂ in
+            record {
+              value = record { viewMark = h .view; sstMark = h .sst; l0 = f .value; runs = g .value };
+              read = b .rest ∙ rw (f .read, e₁, g .read, e₂);
+              step = record { between = table views′ (c .inner + h .views); l0 = f .step; runs = g .step; is = rw (x, y) };
+              under = (omega (arith, g .under .0), omega (arith, g .under .1));
+            }
 
 module _ (s : List ℕ) (at n p₀ : ℕ) (prefix : Place) (p₁ : ℕ) (e₀ : groupAt s at 2 ≡ group.Of n p₀) (e₁ : keyAt s p₀ ≡ is (bytesIn s prefix) p₁) where
   pub segment-under : (c : Cursor) → (c .outer ≤ at) × (c .inner ≤ at) → (c .outer ≤ p₁) × (c .inner ≤ p₁)

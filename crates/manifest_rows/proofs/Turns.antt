@@ -7,10 +7,8 @@ use native.Mathlib.Nat.{zero-add, suc-add}
 use lib.ListN.{length, length-append}
 use Rattle.msgpack.specs.declared.Skipped.{Skipped}
 use Rattle.msgpack.specs.declared.Skipped.the-variants.{Past, Bad}
-use Rattle.manifest_values.specs.Read.{Got, is, wrong, on, many, Trees}
-use Rattle.manifest_rows.specs.Stored.{FilledIs, Filled, Steps, none, more, Two, UnderTwo, Moves, TreeStep, TreeMoves, Three, UnderThree, SegmentMoves, TreesStep, TreesMoves}
-use Rattle.manifest_rows.specs.declared.GotTrees.{GotTrees}
-use Rattle.manifest_rows.specs.declared.GotTrees.the-variants as trees
+use Rattle.manifest_values.specs.Read.{Got, is, wrong, on, many}
+use Rattle.manifest_rows.specs.Stored.{FilledIs, Filled, Steps, none, more, Two, UnderTwo, Moves, TreeStep, TreeMoves, Three, UnderThree, SegmentMoves}
 use Rattle.records.specs.Model.{Tree}
 use Rattle.records.specs.declared.TreeRow.{TreeRow}
 use Rattle.manifest_rows.specs.declared.GotTree.{GotTree}
@@ -48,13 +46,6 @@ module _ {A : Type 0} (Step : A → Three → Three → Type 0) (g : Got A) (σ 
 
   pub segment-wrong : (q : ℕ) → r ≡ moved.Wrong q → g ≡ wrong q
   segment-wrong q e = rw e at f
-
-module _ (s : List ℕ) (g : Got Trees) (σ : Three) (after : ℕ → Cursor → Three) (r : GotTrees) (f : TreesMoves s g σ after r) where
-  pub trees-is : (row : TreeRow) (k p : ℕ) (c : Cursor) → r ≡ trees.Is row k p c → FilledIs (TreesStep s row) UnderThree g σ (after k c) p
-  trees-is row k p c e = rw e at f
-
-  pub trees-wrong : (q : ℕ) → r ≡ trees.Wrong q → g ≡ wrong q
-  trees-wrong q e = rw e at f
 
 -- ---- one more at the end
 

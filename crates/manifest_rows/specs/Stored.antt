@@ -27,8 +27,6 @@ use Rattle.manifest_rows.specs.declared.GotManifest.the-variants as mani
 use Rattle.msgpack.specs.declared.Skipped.{Skipped}
 use Rattle.msgpack.specs.declared.Skipped.the-variants.{Past, Bad}
 use Rattle.manifest_values.specs.Read.{Got, is, wrong, Trees}
-use Rattle.manifest_rows.specs.declared.GotTrees.{GotTrees}
-use Rattle.manifest_rows.specs.declared.GotTrees.the-variants as trees
 use Rattle.manifest_rows.specs.declared.Cursor.{Cursor}
 use Rattle.manifest_rows.specs.declared.Moved.{Moved}
 use Rattle.manifest_rows.specs.declared.Moved.the-variants as moved
@@ -204,10 +202,6 @@ pub record TreesStep (s : List ℕ) (row : TreeRow) (x : Trees) (σ σ′ : Thre
   pub between : Two
   pub tree : TreeStep s row (x .tree) (σ .rest) between
   pub segments : Steps (SegmentStep s) (x .segments) (record { segments = σ .segments; rest = between }) σ′
-
-abbrev pub TreesMoves : List ℕ → Got Trees → Three → (ℕ → Cursor → Three) → GotTrees → Type 0
-TreesMoves s g σ after (trees.Is row k p c) = FilledIs (TreesStep s row) UnderThree g σ (after k c) p
-TreesMoves s g σ after (trees.Wrong q) = g ≡ wrong q
 
 -- ---- the manifest: its own row is a value, and c counts the rows of every table; no byte is filled in, the input is the pool
 

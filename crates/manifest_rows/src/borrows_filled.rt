@@ -1,12 +1,10 @@
 // Rows of borrows and their ids into the lent working tables.
 use crate::Cursor;
+use crate::GotBorrowHead;
 use crate::Moved;
+use crate::heads_read::borrow_head;
 use crate::views_filled::store;
 use ids::SstId;
-use ids::Uuid;
-use manifest_values::GotFinal;
-use manifest_values::GotPlace;
-use msgpack::Group;
 use msgpack::Id;
 use msgpack::Skipped;
 use records::BorrowRow;
@@ -58,45 +56,37 @@ fn fill_borrow(s: &[u8], at: usize, borrows: &mut [u64], ids: &mut [u64], c: Cur
     requires { ⌜ (c .outer ≤ at) × (c .inner ≤ at) ⌝ }
     ensures { λ r. ⌜ Moves (BorrowStep (now (s .entry))) (borrowAt (now (s .entry)) at) (two (now (borrows .entry)) (now (ids .entry)) c) (λ d. two (now (borrows .exit)) (now (ids .exit)) d) r ⌝ }
 {
-    let i = c.outer;
-    let v = c.inner;
-    match msgpack::group_at(s, at, 4) {
-        Group::Of(n, p0) => match manifest_values::place_row(s, p0) {
-            GotPlace::Is(path, p1) => match msgpack::id_at(s, p1) {
-                Id::Is(hi, lo, p2) => match manifest_values::final_row(s, p2) {
-                    GotFinal::Is(fin, p3) => match msgpack::list_at(s, p3) {
-                        Group::Of(k, p4) => match fill_ids(s, p4, k, ids, v) {
-                            Skipped::Past(p5) => match msgpack::rest_at(s, p5, n, 4) {
-                                Skipped::Past(e) => {
-                                    let count = k as usize;
-                                    let words = records::borrow_words(BorrowRow {
-                                        path,
-                                        source: Uuid(hi, lo),
-                                        fin,
-                                        ids: Window { first: v, count },
-                                    });
-                                    store(&words, i, borrows);
-                                    Moved::At(
-                                        e,
-                                        Cursor {
-                                            outer: i + 1,
-                                            inner: v + count,
-                                        },
-                                    )
-                                }
-                                Skipped::Bad(w) => Moved::Wrong(w),
-                            },
-                            Skipped::Bad(w) => Moved::Wrong(w),
+    match borrow_head(s, at) {
+        GotBorrowHead::Is(h, p) => match fill_ids(s, p, h.ids, ids, c.inner) {
+            Skipped::Past(q) => match msgpack::rest_at(s, q, h.parts, 4) {
+                Skipped::Past(e) => {
+                    let count = h.ids as usize;
+                    let path = h.path;
+                    let source = h.source;
+                    let fin = h.fin;
+                    let words = records::borrow_words(BorrowRow {
+                        path,
+                        source,
+                        fin,
+                        ids: Window {
+                            first: c.inner,
+                            count,
                         },
-                        Group::Wrong(w) => Moved::Wrong(w),
-                    },
-                    GotFinal::Wrong(w) => Moved::Wrong(w),
-                },
-                Id::Wrong(w) => Moved::Wrong(w),
+                    });
+                    store(&words, c.outer, borrows);
+                    return Moved::At(
+                        e,
+                        Cursor {
+                            outer: c.outer + 1,
+                            inner: c.inner + count,
+                        },
+                    );
+                }
+                Skipped::Bad(w) => return Moved::Wrong(w),
             },
-            GotPlace::Wrong(w) => Moved::Wrong(w),
+            Skipped::Bad(w) => return Moved::Wrong(w),
         },
-        Group::Wrong(w) => Moved::Wrong(w),
+        GotBorrowHead::Wrong(w) => return Moved::Wrong(w),
     }
 }
 

@@ -1,10 +1,10 @@
 // Rows of views and runs into the lent working tables.
 use crate::Cursor;
+use crate::GotRunHead;
 use crate::Moved;
+use crate::heads_read::run_head;
 use manifest_values::GotView;
-use msgpack::Group;
 use msgpack::Skipped;
-use msgpack::Uint;
 use records::RunRow;
 use tables::Window;
 ghost use Prim.Native.Nat.{_+_, _≤_, _<_};
@@ -66,37 +66,32 @@ fn fill_run(s: &[u8], at: usize, runs: &mut [u64], views: &mut [u64], c: Cursor)
     requires { ⌜ (c .outer ≤ at) × (c .inner ≤ at) ⌝ }
     ensures { λ r. ⌜ Moves (RunStep (now (s .entry))) (runAt (now (s .entry)) at) (two (now (runs .entry)) (now (views .entry)) c) (λ d. two (now (runs .exit)) (now (views .exit)) d) r ⌝ }
 {
-    let i = c.outer;
-    let v = c.inner;
-    match msgpack::group_at(s, at, 2) {
-        Group::Of(n, p0) => match msgpack::uint_at(s, p0, 0xffff_ffff) {
-            Uint::Is(id, p1) => match msgpack::list_at(s, p1) {
-                Group::Of(k, p2) => match fill_views(s, p2, k, views, v) {
-                    Skipped::Past(p3) => match msgpack::rest_at(s, p3, n, 2) {
-                        Skipped::Past(e) => {
-                            let count = k as usize;
-                            let words = records::run_words(RunRow {
-                                id,
-                                views: Window { first: v, count },
-                            });
-                            store(&words, i, runs);
-                            Moved::At(
-                                e,
-                                Cursor {
-                                    outer: i + 1,
-                                    inner: v + count,
-                                },
-                            )
-                        }
-                        Skipped::Bad(w) => Moved::Wrong(w),
-                    },
-                    Skipped::Bad(w) => Moved::Wrong(w),
-                },
-                Group::Wrong(w) => Moved::Wrong(w),
+    match run_head(s, at) {
+        GotRunHead::Is(h, p) => match fill_views(s, p, h.views, views, c.inner) {
+            Skipped::Past(q) => match msgpack::rest_at(s, q, h.parts, 2) {
+                Skipped::Past(e) => {
+                    let count = h.views as usize;
+                    let words = records::run_words(RunRow {
+                        id: h.id,
+                        views: Window {
+                            first: c.inner,
+                            count,
+                        },
+                    });
+                    store(&words, c.outer, runs);
+                    return Moved::At(
+                        e,
+                        Cursor {
+                            outer: c.outer + 1,
+                            inner: c.inner + count,
+                        },
+                    );
+                }
+                Skipped::Bad(w) => return Moved::Wrong(w),
             },
-            Uint::Wrong(w) => Moved::Wrong(w),
+            Skipped::Bad(w) => return Moved::Wrong(w),
         },
-        Group::Wrong(w) => Moved::Wrong(w),
+        GotRunHead::Wrong(w) => return Moved::Wrong(w),
     }
 }
 

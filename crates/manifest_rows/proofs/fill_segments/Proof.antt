@@ -1,8 +1,7 @@
 use Prim.Native.Nat.{_+_}
-use mathlib.Core.Path.{_≡_, refl}
+use mathlib.Core.Path.{_≡_, refl, _∙_}
 use native.Mathlib.Omega.{arith}
 use native.Mathlib.Nat.{zero-add}
-use borrow.Author.Needs.{needs}
 use lib.ListN.{length}
 use Rattle.manifest_values.specs.Read.{segmentAt}
 use Rattle.manifest_rows.specs.Stored.{SegmentStep, UnderThree, three}
@@ -24,17 +23,17 @@ fill-segments-spec =
     μ-loop
     (λ c. (turn-none _ _ _ _ _ _ (omega arith, c .before .before .before .before .pre), zero-add _, refl, refl, refl))
     (λ c κs. c .before .before .before .before .loop .inv .0 .so-far .under)
-    (λ c. search needs)
-    (λ c. search needs)
-    (λ c. search needs)
-    (λ c. search needs)
-    (λ c. search needs)
+    (λ c. c .match .keys1)
+    (λ c. c .match .keys2)
+    (λ c. c .before .before .before .before .before .before .before .before .before .fill-segment .kept .1 .1 .0 ∙ c .before .before .before .before .before .before .before .before .before .before .before .before .before .before .loop .inv .2)
+    (λ c. c .before .before .before .before .before .before .before .before .before .fill-segment .kept .1 .1 .1 .1 .0 ∙ c .before .before .before .before .before .before .before .before .before .before .before .before .before .before .loop .inv .3)
+    (λ c. c .before .before .before .before .before .before .before .before .before .fill-segment .kept .1 .1 .1 .1 .1 .0 ∙ c .before .before .before .before .before .before .before .before .before .before .before .before .before .before .loop .inv .4)
     (λ c. turn-wrong _ _ _ _ _ _ _ _ _ (c .before .before .before .before .before .before .before .before .before .before .before .before .before .before .loop .inv .0) _ (c .before .before .before .before .before .before .before .before .before .before .before .before .before .loop-test .taken) (segment-wrong _ _ _ _ _ (c .before .before .before .before .before .before .before .before .before .fill-segment .ensures) _ (c .before .w .given .1)))
     (λ c. let f = segment-is _ _ _ _ _ (c .before .before .before .before .before .before .before .before .before .fill-segment .ensures) _ _ (c .before .next .given .1) in omega (arith, f .under .0))
     (λ c. omega arith)
     (λ c. omega arith)
-    (λ c. (turn-more _ _ _ _ _ _ _ _ _ (c .before .before .before .before .before .before .before .before .before .before .before .before .before .before .loop .inv .0) _ _ (c .before .before .before .before .before .before .before .before .before .before .before .before .before .loop-test .taken) (segment-is _ _ _ _ _ (c .before .before .before .before .before .before .before .before .before .fill-segment .ensures) _ _ (c .before .next .given .1)), omega (arith, c .before .before .before .before .before .before .before .before .before .before .before .before .before .before .loop .inv .1, c .before .before .before .before .before .before .before .before .before .before .before .before .before .loop-test .taken), search needs, search needs, search needs))
-    (λ c. search needs)
-    (λ c. search needs)
-    (λ c. search needs)
+    (λ c. (turn-more _ _ _ _ _ _ _ _ _ (c .before .before .before .before .before .before .before .before .before .before .before .before .before .before .loop .inv .0) _ _ (c .before .before .before .before .before .before .before .before .before .before .before .before .before .loop-test .taken) (segment-is _ _ _ _ _ (c .before .before .before .before .before .before .before .before .before .fill-segment .ensures) _ _ (c .before .next .given .1)), omega (arith, c .before .before .before .before .before .before .before .before .before .before .before .before .before .before .loop .inv .1, c .before .before .before .before .before .before .before .before .before .before .before .before .before .loop-test .taken), c .before .before .before .before .before .before .before .before .before .fill-segment .kept .1 .1 .0 ∙ c .before .before .before .before .before .before .before .before .before .before .before .before .before .before .loop .inv .2, c .before .before .before .before .before .before .before .before .before .fill-segment .kept .1 .1 .1 .1 .0 ∙ c .before .before .before .before .before .before .before .before .before .before .before .before .before .before .loop .inv .3, c .before .before .before .before .before .before .before .before .before .fill-segment .kept .1 .1 .1 .1 .1 .0 ∙ c .before .before .before .before .before .before .before .before .before .before .before .before .before .before .loop .inv .4))
+    (λ c. c .before .loop .inv .2)
+    (λ c. c .before .loop .inv .3)
+    (λ c. c .before .loop .inv .4)
     (λ c. let e = all-in _ _ _ (c .before .loop .inv .1) (c .loop-test .left) in rw e at (turn-all _ _ _ _ _ _ _ _ _ (c .before .loop .inv .0) (c .loop-test .left))))
