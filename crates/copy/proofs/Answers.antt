@@ -78,9 +78,19 @@ module _ (lim : Limits) (c : Fill) (l : Lent) (m : ManifestRow) (o : Lent) (r : 
           go true false e = let z : _≡_ {A = ℕ} 0 1 = cc in absurd (omega arith)
           go false y e = let z : _≡_ {A = ℕ} 0 1 = cc in absurd (omega arith)
 
-      pub copy-done : b ≡ false → record { answer = Done (manifestRowAt c (manifestIn l m)); out = laidAt c o (layoutAt c (manifestIn l m)) } ≡ copyAtOf lim c l m o
+      copy-done : b ≡ false → record { answer = Done (manifestRowAt c (manifestIn l m)); out = laidAt c o (layoutAt c (manifestIn l m)) } ≡ copyAtOf lim c l m o
       unfolding copyAtOf givenAt
       copy-done t = rw (keeps .0, sym beside ∙ t)
+
+      -- what was written, table by table
+      pub copy-given : (row : ManifestRow) (k : Lent) → b ≡ false → row ≡ manifestRowAt c (manifestIn l m) → k .segments ≡ laidAt c o (layoutAt c (manifestIn l m)) .segments
+          → k .views ≡ laidAt c o (layoutAt c (manifestIn l m)) .views → k .runs ≡ laidAt c o (layoutAt c (manifestIn l m)) .runs → k .borrows ≡ laidAt c o (layoutAt c (manifestIn l m)) .borrows
+          → k .ids ≡ laidAt c o (layoutAt c (manifestIn l m)) .ids → k .pool ≡ laidAt c o (layoutAt c (manifestIn l m)) .pool
+          → _≡_ {A = Outcome} (record { answer = Done row; out = k }) (copyAtOf lim c l m o)
+      copy-given row k t e s v r w i p =
+          let same : _≡_ {A = Outcome} (record { answer = Done row; out = k }) (record { answer = Done (manifestRowAt c (manifestIn l m)); out = laidAt c o (layoutAt c (manifestIn l m)) }) =
+          λ j. record { answer = Done (e j); out = record { segments = s j; views = v j; runs = r j; borrows = w j; ids = i j; pool = p j } } in
+          same ∙ copy-done t
 
 -- ---- at the front is behind nothing
 

@@ -5,7 +5,6 @@ use lib.ListN.{length}
 use Rattle.records.specs.Decode.{Lent}
 use Rattle.unite_judge.specs.Judging.{workShort}
 use Rattle.unite.proofs.Answers.{union-many, union-path, union-short, union-broken, union-lawful}
-use borrow.Author.Needs.{needs}
 use Rattle.unite_all.proofs.cloned_from_union.Statement.{statement}
 use Rattle.unite_all.proofs.cloned_from_union.Tie as tie
 
@@ -19,7 +18,7 @@ returns-2 : tie.Need-returns-2
 returns-2 c = let a = c .before .before .before .before .before .before .before .before .before .before .before .before .before .before .before .before .before .before .before .before .before .args in let l : Lent = record { segments = now (a .segments); views = now (a .views); runs = now (a .runs); borrows = now (a .borrows); ids = now (a .ids); pool = now (a .pool) } in let o : Lent = record { segments = now (a .out-segments); views = now (a .out-views); runs = now (a .out-runs); borrows = now (a .out-borrows); ids = now (a .out-ids); pool = now (a .out-pool) } in let short = workShort (a .lim) (length (now (a .prefixes))) (length (now (a .owned))) (length (now (a .groups))) (length (now (a .sets))) in union-path (a .lim) l (now (a .sources)) (now (a .fresh)) short o (omega (arith, c .before .before .if1 .left)) _ (c .before .some-path-over .ensures) (c .if2 .taken)
 
 work-short-requires : tie.Need-work-short-requires
-work-short-requires c κs = search needs
+work-short-requires c κs = tt
 
 returns-3 : tie.Need-returns-3
 returns-3 c = let a = c .before .before .before .before .before .before .before .before .before .before .before .before .before .before .before .before .before .before .before .before .before .before .before .args in let l : Lent = record { segments = now (a .segments); views = now (a .views); runs = now (a .runs); borrows = now (a .borrows); ids = now (a .ids); pool = now (a .pool) } in let o : Lent = record { segments = now (a .out-segments); views = now (a .out-views); runs = now (a .out-runs); borrows = now (a .out-borrows); ids = now (a .out-ids); pool = now (a .out-pool) } in let short = workShort (a .lim) (length (now (a .prefixes))) (length (now (a .owned))) (length (now (a .groups))) (length (now (a .sets))) in union-short (a .lim) l (now (a .sources)) (now (a .fresh)) short o (omega (arith, c .before .before .before .before .if1 .left)) _ (c .before .before .before .some-path-over .ensures) (c .before .before .if2 .left) _ (c .before .work-short .ensures) (c .if3 .taken)
@@ -28,13 +27,13 @@ sources-judged-requires : tie.Need-sources-judged-requires
 sources-judged-requires c κs = omega arith
 
 enum-told : tie.Need-enum-told
-enum-told c = search needs
+enum-told c = c .match .keys1
 
 union-judged-requires : tie.Need-union-judged-requires
 union-judged-requires c κs = (omega (arith, c .before .before .before .before .before .before .before .before .before .before .before .before .before .before .before .before .before .if1 .left), (omega arith, (sym (c .before .before .before .before .before .before .before .before .before .before .before .before .sources-judged .ensures) ∙ c .before .before .before .before .before .before .before .before .before .before .enum-told .given .1, sym (c .before .before .before .before .before .before .before .before .before .before .before .before .before .before .work-short .ensures) ∙ c .before .before .before .before .before .before .before .before .before .before .before .before .before .if3 .left)))
 
 enum-known-rule : tie.Need-enum-known-rule
-enum-known-rule c = search needs
+enum-known-rule c = c .match .keys2
 
 same-length : tie.Need-same-length
 same-length c = c .before .before .before .before .before .before .before .before .before .before .before .before .before .before .before .before .before .before .before .before .union-judged .kept .1 .1 .1 .1 .1 .1 .1 .1 .1 .1 .0

@@ -3,18 +3,17 @@ use Rattle.records.specs.Decode.{Lent}
 use Rattle.borrows.specs.Clone.{uuidsOf}
 use Rattle.unite_plain.specs.By.{usedIn}
 use Rattle.unite_all.proofs.Agreed.{by-name}
-use borrow.Author.Needs.{needs}
 use Rattle.unite_all.proofs.union_by.Statement.{statement}
 use Rattle.unite_all.proofs.union_by.Tie as tie
 
 enum-told : tie.Need-enum-told
-enum-told c = search needs
+enum-told c = c .match .keys1
 
 union-plain-requires : tie.Need-union-plain-requires
 union-plain-requires c κs = let p = c .before .before .before .before .before .before .before .before .before .before .before .before .before .before .before .before .before .before .before .before .before .before .before .before .before .before .before .before .before .before .pre in (p .0, (p .1 .0, (p .1 .1 .0, (p .1 .1 .1 .0, (p .1 .1 .1 .1 .0, p .1 .1 .1 .1 .1 .0)))))
 
 enum-known-name : tie.Need-enum-known-name
-enum-known-name c = search needs
+enum-known-name c = c .match .keys2
 
 union-named-requires : tie.Need-union-named-requires
 union-named-requires c κs = c .before .before .before .before .before .before .before .before .before .before .before .before .before .before .before .before .before .before .before .before .before .before .before .before .before .before .before .before .before .before .before .before .pre

@@ -1,3 +1,4 @@
+use mathlib.Core.Path.{refl}
 use denote.Ref.{now}
 use native.Mathlib.Omega.{arith}
 use lib.ListN.{length}
@@ -16,7 +17,7 @@ returns : tie.Need-returns
 returns c = let a = c .before .before .before .before .before .before .before .before .before .before .before .before .before .before .before .before .before .before .before .before .args in let l : Lent = record { segments = now (a .segments); views = now (a .views); runs = now (a .runs); borrows = now (a .borrows); ids = now (a .ids); pool = now (a .pool) } in let o : Lent = record { segments = now (a .out-segments); views = now (a .out-views); runs = now (a .out-runs); borrows = now (a .out-borrows); ids = now (a .out-ids); pool = now (a .out-pool) } in given-differ (a .lim) l (now (a .sources)) (a .n) (uuidsOf (now (a .fresh))) o _ (c .before .names-differ .ensures) (c .if1 .taken)
 
 slice-aggregate-arrange-sources : tie.Need-slice-aggregate-arrange-sources
-slice-aggregate-arrange-sources c = search needs
+slice-aggregate-arrange-sources c = refl
 
 arrange-sources-requires : tie.Need-arrange-sources-requires
 arrange-sources-requires c κs = let p = c .before .before .before .before .before .before .before .before .before .before .before .before .before .before .before .before .before .before .before .before .before .pre in (p .1 .0, omega (arith, p .0))

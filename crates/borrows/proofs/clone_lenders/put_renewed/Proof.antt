@@ -1,3 +1,4 @@
+use mathlib.Core.Path.{refl}
 use borrow.Author.Needs.{needs}
 use denote.Ref.{now}
 use Prim.Native.Nat.{_+_, _-_, _/_}
@@ -25,21 +26,55 @@ Inv-loop borrows ids pool fresh out-borrows₀ out-ids₀ out-pool₀ n first to
 abbrev μ-loop : tie.MeasureT-loop
 μ-loop borrows ids pool fresh out-borrows₀ out-ids₀ out-pool₀ n first to₀ k₀ out-borrows out-ids out-pool to k = n - k
 
-pub put-renewed-spec : {M : Type 1} → statement M
+held-requires : tie.Need-held-requires Inv-loop μ-loop
+held-requires c κs = tt
+
+loop-holds : tie.Need-loop-holds Inv-loop μ-loop
 unfolding borrowsLaid
+loop-holds c = let a = c .before .before .before .before .before .before .before .before .args in let q = renewed-each (now (a .borrows)) (now (a .ids)) (now (a .pool)) (a .w) (uuidsOf (now (a .fresh))) _ (c .held .ensures) in let p = rw q at (c .before .before .before .before .before .before .before .before .pre .1) in (walk-none, grown-none (p .0), grown-none (p .1 .0), grown-none (p .1 .1))
+
+add-put-renewed-at : tie.Need-add-put-renewed-at Inv-loop μ-loop
+add-put-renewed-at c = let a = c .before .before .before .before .before .before .before .before .before .before .args in omega (arith, held-in (a .w) (length (now (a .borrows)) / 9) (c .before .loop .k) (omega arith))
+
+put-renewed-at-requires : tie.Need-put-renewed-at-requires Inv-loop μ-loop
+put-renewed-at-requires c κs = let a = c .before .before .before .before .before .before .before .before .before .before .before .before .before .args in let i = c .before .before .before .before .loop .inv in let h = c .before .before .before .loop-test .taken in let e = c .before .before .before .before .before .held .ensures in (held-in (a .w) (length (now (a .borrows)) / 9) (c .before .before .before .before .loop .k) (omega arith), (omega (arith, c .before .before .before .before .before .before .before .before .before .before .before .before .before .pre .0), (grown-room (i .0) (i .1) h, (grown-room (i .0) (i .2) h, grown-room (i .0) (i .3) h))))
+
+add-k : tie.Need-add-k Inv-loop μ-loop
+add-k c = search needs
+
+loop-less : tie.Need-loop-less Inv-loop μ-loop
+loop-less c = search needs
+
+loop-again : tie.Need-loop-again Inv-loop μ-loop
+loop-again c = let i = c .before .before .before .before .before .before .before .before .before .before .before .loop .inv in let h = c .before .before .before .before .before .before .before .before .before .before .loop-test .taken in let e = c .before .before .before .before .before .before .put-renewed-at .ensures in (walk-more (i .0) h (e .0), grown-more (i .0) (i .1) h (e .1 .0), grown-more (i .0) (i .2) h (e .1 .1 .0), grown-more (i .0) (i .3) h (e .1 .1 .1))
+
+same-length : tie.Need-same-length Inv-loop μ-loop
+same-length c = c .before .loop .inv .1 .long
+
+same-length-2 : tie.Need-same-length-2 Inv-loop μ-loop
+same-length-2 c = c .before .loop .inv .2 .long
+
+same-length-3 : tie.Need-same-length-3 Inv-loop μ-loop
+same-length-3 c = c .before .loop .inv .3 .long
+
+returns : tie.Need-returns Inv-loop μ-loop
+unfolding borrowsLaid
+returns c = let a = c .before .before .before .before .before .before .before .before .before .before .args in let q = renewed-each (now (a .borrows)) (now (a .ids)) (now (a .pool)) (a .w) (uuidsOf (now (a .fresh))) _ (c .before .before .held .ensures) in let i = c .before .loop .inv in let h = c .loop-test .left in rw q (walk-all (i .0) h, (grown-all (i .0) (i .1) h, (joined-all (i .0) (i .2) h, joined-all (i .0) (i .3) h)))
+
+pub put-renewed-spec : {M : Type 1} → statement M
 put-renewed-spec =
     tie.close
     (tie.spec
     Inv-loop
     μ-loop
-    (λ c κs. search needs)  -- held-requires
-    (λ c. let a = c .before .before .before .before .before .before .before .before .args in let q = renewed-each (now (a .borrows)) (now (a .ids)) (now (a .pool)) (a .w) (uuidsOf (now (a .fresh))) _ (c .held .ensures) in let p = rw q at (c .before .before .before .before .before .before .before .before .pre .1) in (walk-none, grown-none (p .0), grown-none (p .1 .0), grown-none (p .1 .1)))  -- loop-holds
-    (λ c. let a = c .before .before .before .before .before .before .before .before .before .before .args in omega (arith, held-in (a .w) (length (now (a .borrows)) / 9) (c .before .loop .k) (omega arith)))  -- add-put-renewed-at
-    (λ c κs. let a = c .before .before .before .before .before .before .before .before .before .before .before .before .before .args in let i = c .before .before .before .before .loop .inv in let h = c .before .before .before .loop-test .taken in let e = c .before .before .before .before .before .held .ensures in (held-in (a .w) (length (now (a .borrows)) / 9) (c .before .before .before .before .loop .k) (omega arith), (omega (arith, c .before .before .before .before .before .before .before .before .before .before .before .before .before .pre .0), (grown-room (i .0) (i .1) h, (grown-room (i .0) (i .2) h, grown-room (i .0) (i .3) h)))))  -- put-renewed-at-requires
-    (λ c. search needs)  -- add-k
-    (λ c. search needs)  -- loop-less
-    (λ c. let i = c .before .before .before .before .before .before .before .before .before .before .before .loop .inv in let h = c .before .before .before .before .before .before .before .before .before .before .loop-test .taken in let e = c .before .before .before .before .before .before .put-renewed-at .ensures in (walk-more (i .0) h (e .0), grown-more (i .0) (i .1) h (e .1 .0), grown-more (i .0) (i .2) h (e .1 .1 .0), grown-more (i .0) (i .3) h (e .1 .1 .1)))  -- loop-again
-    (λ c. search needs)  -- same-length
-    (λ c. search needs)  -- same-length-2
-    (λ c. search needs)  -- same-length-3
-    (λ c. let a = c .before .before .before .before .before .before .before .before .before .before .args in let q = renewed-each (now (a .borrows)) (now (a .ids)) (now (a .pool)) (a .w) (uuidsOf (now (a .fresh))) _ (c .before .before .held .ensures) in let i = c .before .loop .inv in let h = c .loop-test .left in rw q (walk-all (i .0) h, (grown-all (i .0) (i .1) h, (joined-all (i .0) (i .2) h, joined-all (i .0) (i .3) h)))))  -- returns
+    held-requires
+    loop-holds
+    add-put-renewed-at
+    put-renewed-at-requires
+    add-k
+    loop-less
+    loop-again
+    same-length
+    same-length-2
+    same-length-3
+    returns)

@@ -11,10 +11,10 @@ put-segment-at-spec =
     tie.close
     (tie.spec
     (λ c κs. search needs)  -- segment-at-requires
-    (λ c κs. search needs)  -- resolve-segment-action-requires
+    (λ c κs. tt)  -- resolve-segment-action-requires
     (λ c κs. let a = c .before .before .before .before .before .before .before .before .before .before .before .before .before .before .before .before .args in segments-room-as _ _ (piece-is (now (a .pool)) (configIn (now (a .pool)) (a .config) (now (a .own))) (a .place) _ _ (now (a .runs)) (now (a .views)) (c .before .before .before .before .resolve-segment-action .result) (c .before .before .before .before .before .before .segment-at .ensures) (c .before .before .before .before .resolve-segment-action .ensures)) (a .c) _ _ _ _ (c .before .before .before .before .before .before .before .before .before .before .before .before .before .before .before .before .pre .1))  -- put-segment-after-requires
-    (λ c. search needs)  -- same-length
-    (λ c. search needs)  -- same-length-2
-    (λ c. search needs)  -- same-length-3
-    (λ c. search needs)  -- same-length-4
+    (λ c. c .before .before .before .before .before .before .before .before .put-segment-after .kept .1 .1 .1 .1 .1 .0)  -- same-length
+    (λ c. c .before .before .before .before .before .before .before .before .put-segment-after .kept .1 .1 .1 .1 .1 .1 .0)  -- same-length-2
+    (λ c. c .before .before .before .before .before .before .before .before .put-segment-after .kept .1 .1 .1 .1 .1 .1 .1 .0)  -- same-length-3
+    (λ c. c .before .before .before .before .before .before .before .before .put-segment-after .kept .1 .1 .1 .1 .1 .1 .1 .1 .0)  -- same-length-4
     (λ c. let a = c .before .before .before .before .before .before .before .before .before .before .before .before .before .before .before .before .before .before .before .before .before .before .before .before .before .args in segments-laid-as _ _ (piece-is (now (a .pool)) (configIn (now (a .pool)) (a .config) (now (a .own))) (a .place) _ _ (now (a .runs)) (now (a .views)) (c .before .before .before .before .before .before .before .before .before .before .before .before .before .resolve-segment-action .result) (c .before .before .before .before .before .before .before .before .before .before .before .before .before .before .before .segment-at .ensures) (c .before .before .before .before .before .before .before .before .before .before .before .before .before .resolve-segment-action .ensures)) (a .c) _ _ _ _ _ _ _ _ _ (c .before .before .before .before .before .before .before .before .put-segment-after .ensures)))  -- returns

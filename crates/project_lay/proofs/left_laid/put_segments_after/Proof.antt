@@ -1,3 +1,5 @@
+use native.Mathlib.Numerals.{add-one}
+use mir.Facts.{fits-le}
 use denote.Ref.{now}
 use Prim.Native.Nat.{_-_, _/_}
 use native.Mathlib.Omega.{arith}
@@ -31,16 +33,16 @@ put-segments-after-spec =
     (tie.spec
     Inv-loop
     μ-loop
-    (λ c κs. search needs)  -- held-requires
+    (λ c κs. tt)  -- held-requires
     (λ c. let a = c .before .before .before .before .before .before .before .before .before .before .args in let p = c .before .before .before .before .before .before .before .before .before .before .pre in let f = (left-fill (now (a .segments)) (now (a .runs)) (now (a .views)) (now (a .pool)) (a .w) (configIn (now (a .pool)) (a .config) (now (a .own))) _ (c .held .ensures)) in (walk-none, grown-none (rw f (p .0)), grown-none (rw f (p .1 .0)), grown-none (rw f (p .1 .1 .0)), grown-none (rw f (p .1 .1 .1))))  -- loop-holds
     (λ c. omega (arith, held-in (c .before .before .before .before .before .before .before .before .before .before .before .before .args .w) (length (now (c .before .before .before .before .before .before .before .before .before .before .before .before .args .segments)) / 12) (c .before .loop .k) (omega arith)))  -- add-put-segment-at
     (λ c. omega arith)  -- add-put-segment-at-2
     (λ c κs. let i = c .before .before .before .before .before .loop .inv in let h = c .before .before .before .before .loop-test .taken in (held-in (c .before .before .before .before .before .before .before .before .before .before .before .before .before .before .before .before .args .w) (length (now (c .before .before .before .before .before .before .before .before .before .before .before .before .before .before .before .before .args .segments)) / 12) (c .before .before .before .before .before .loop .k) (omega arith), (grown-room (i .0) (i .1) h, (grown-room (i .0) (i .2) h, (grown-room (i .0) (i .3) h, grown-room (i .0) (i .4) h)))))  -- put-segment-at-requires
-    (λ c. search needs)  -- add-k
+    (λ c. rw (add-one (c .before .before .before .before .before .before .before .before .before .before .before .before .before .before .loop .k)) (fits-le (c .before .before .before .before .before .before .before .before .before .before .before .before .before .loop-test .taken) (record { fits = c .before .before .before .before .before .before .before .before .before .before .before .before .before .before .before .held .ok })))  -- add-k
     (λ c. search needs)  -- loop-less
     (λ c. let i = c .before .before .before .before .before .before .before .before .before .before .before .before .before .before .loop .inv in let h = c .before .before .before .before .before .before .before .before .before .before .before .before .before .loop-test .taken in let e = c .before .before .before .before .before .before .before .before .put-segment-at .ensures in (walk-more (i .0) h (e .0), grown-more (i .0) (i .1) h (e .1 .0), grown-more (i .0) (i .2) h (e .1 .1 .0), grown-more (i .0) (i .3) h (e .1 .1 .1 .0), grown-more (i .0) (i .4) h (e .1 .1 .1 .1)))  -- loop-again
-    (λ c. search needs)  -- same-length
-    (λ c. search needs)  -- same-length-2
-    (λ c. search needs)  -- same-length-3
-    (λ c. search needs)  -- same-length-4
+    (λ c. c .before .loop .inv .1 .long)  -- same-length
+    (λ c. c .before .loop .inv .2 .long)  -- same-length-2
+    (λ c. c .before .loop .inv .3 .long)  -- same-length-3
+    (λ c. c .before .loop .inv .4 .long)  -- same-length-4
     (λ c. let a = c .before .before .before .before .before .before .before .before .before .before .before .before .args in let i = c .before .loop .inv in let h = c .loop-test .left in left-laid (now (a .segments)) (now (a .runs)) (now (a .views)) (now (a .pool)) (a .w) (configIn (now (a .pool)) (a .config) (now (a .own))) _ (c .before .before .held .ensures) (a .c) _ _ _ _ _ _ _ _ _ (walk-all (i .0) h) (grown-all (i .0) (i .1) h) (grown-all (i .0) (i .2) h) (grown-all (i .0) (i .3) h) (joined-all (i .0) (i .4) h)))  -- returns

@@ -10,7 +10,7 @@ ids-segment-at-spec =
     tie.close
     (tie.spec
     (λ c κs. search needs)  -- segment-at-requires
-    (λ c κs. search needs)  -- resolve-segment-action-requires
+    (λ c κs. tt)  -- resolve-segment-action-requires
     (λ c κs. let a = c .before .before .before .before .before .before .before .before .before .before .before .args in room-as (a .c) _ _ _ (at-used (now (a .pool)) (configIn (now (a .pool)) (a .config) (now (a .own))) (a .place) _ _ (now (a .runs)) (now (a .views)) (c .before .resolve-segment-action .result) (c .before .before .before .before .segment-at .ensures) (c .before .resolve-segment-action .ensures)) (c .before .before .before .before .before .before .before .before .before .before .before .pre .1))  -- ids-after-requires
-    (λ c. search needs)  -- same-length
+    (λ c. c .before .before .ids-after .kept .1 .1 .1 .1 .1 .0)  -- same-length
     (λ c. let a = c .before .before .before .before .before .before .before .before .before .before .before .before .before .before .args in listed-as (a .c) _ _ _ _ _ (at-used (now (a .pool)) (configIn (now (a .pool)) (a .config) (now (a .own))) (a .place) _ _ (now (a .runs)) (now (a .views)) (c .before .before .before .before .resolve-segment-action .result) (c .before .before .before .before .before .before .before .segment-at .ensures) (c .before .before .before .before .resolve-segment-action .ensures)) (c .before .before .ids-after .ensures)))  -- returns

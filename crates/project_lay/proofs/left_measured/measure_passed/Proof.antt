@@ -1,5 +1,4 @@
 use Rattle.project_lay.proofs.Adds.{passed-added}
-use borrow.Author.Needs.{needs}
 use Rattle.project_lay.proofs.left_measured.measure_passed.Statement.{statement}
 use Rattle.project_lay.proofs.left_measured.measure_passed.Tie as tie
 
@@ -7,5 +6,5 @@ pub measure-passed-spec : {M : Type 1} → statement M
 measure-passed-spec =
     tie.close
     (tie.spec
-    (λ c κs. search needs)  -- segment-row-requires
+    (λ c κs. tt)  -- segment-row-requires
     (λ c. passed-added _ _ _ _ _ _ _ (c .before .before .before .before .pre .0) (c .before .before .before .before .pre .1) (c .segment-row .ensures)))  -- returns

@@ -14,6 +14,6 @@ measure-segment-at-spec =
     tie.close
     (tie.spec
     (λ c κs. search needs)  -- segment-at-requires
-    (λ c κs. search needs)  -- resolve-segment-action-requires
+    (λ c κs. tt)  -- resolve-segment-action-requires
     (λ c κs. (rw (c .before .before .segment-at .ensures) (c .before .before .before .before .before .before .before .before .pre .1 .0), c .before .before .before .before .before .before .before .before .pre .1 .1))  -- measure-segment-after-requires
     (λ c. let a = c .before .before .before .before .before .before .before .before .before .args in c .measure-segment-after .ensures ∙ ap (λ (x : List Segment). addOf (a .lim .fill) (a .c) (sum segmentFill x)) (piece-is (now (a .pool)) _ (a .place) _ _ (now (a .runs)) (now (a .views)) (c .before .resolve-segment-action .result) (c .before .before .before .segment-at .ensures) (c .before .resolve-segment-action .ensures))))  -- returns

@@ -6,10 +6,10 @@ pub stays-spec : {M : Type 1} → statement M
 stays-spec =
     tie.close
     (tie.spec
-    (λ c. search needs)  -- enum-told
-    (λ c. search needs)  -- enum-known-a
-    (λ c κs. search needs)  -- is-left-requires
-    (λ c. search needs)  -- enum-told-2
+    (λ c. c .match .keys1)  -- enum-told
+    (λ c. c .match .keys2)  -- enum-known-a
+    (λ c κs. tt)  -- is-left-requires
+    (λ c. c .match .keys3)  -- enum-told-2
     (λ c. search needs)  -- returns
     (λ c. rw (c .before .before .a .given .1) (c .is-left .ensures))  -- returns-2
     (λ c. search needs))  -- returns-3

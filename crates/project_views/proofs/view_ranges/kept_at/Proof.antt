@@ -13,5 +13,5 @@ kept-at-spec =
     (λ c. search needs)  -- add-view-at
     (λ c κs. search needs)  -- view-at-requires
     (λ c κs. search needs)  -- end-at-requires
-    (λ c κs. search needs)  -- kept-to-requires
+    (λ c κs. tt)  -- kept-to-requires
     (λ c. let a = c .before .before .before .before .before .args in piece-is (now (a .pool)) (λ i. viewAt (now (a .views)) (a .first + i)) (a .n) (a .k) (a .views-overlap) _ _ _ _ (c .before .before .view-at .ensures) (c .before .end-at .ensures) (c .kept-to .ensures)))  -- returns

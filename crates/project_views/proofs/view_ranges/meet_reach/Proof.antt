@@ -7,7 +7,7 @@ pub meet-reach-spec : {M : Type 1} → statement M
 meet-reach-spec =
     tie.close
     (tie.spec
-    (λ c κs. search needs)  -- plain-end-requires
-    (λ c κs. search needs)  -- meet-requires
-    (λ c κs. search needs)  -- cut-requires
+    (λ c κs. tt)  -- plain-end-requires
+    (λ c κs. tt)  -- meet-requires
+    (λ c κs. tt)  -- cut-requires
     (λ c. search (reach-met, needs)))  -- returns

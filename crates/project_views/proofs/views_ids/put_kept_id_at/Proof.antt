@@ -10,5 +10,5 @@ put-kept-id-at-spec =
     (tie.spec
     (λ c κs. search needs)  -- kept-at-requires
     (λ c κs. rw (piece-used (now (c .before .before .before .before .before .args .pool)) (c .before .kept-at .result) _ (c .before .kept-at .ensures)) (c .before .before .before .before .before .pre .1))  -- put-kept-id-requires
-    (λ c. search needs)  -- same-length
+    (λ c. c .before .before .put-kept-id .kept .1 .0)  -- same-length
     (λ c. rw (← piece-used (now (c .before .before .before .before .before .before .before .before .args .pool)) (c .before .before .before .before .kept-at .result) _ (c .before .before .before .before .kept-at .ensures)) (c .before .before .put-kept-id .ensures)))  -- returns

@@ -10,5 +10,5 @@ put-run-ids-at-spec =
     (tie.spec
     (λ c κs. search needs)  -- run-at-requires
     (λ c κs. rw (c .before .before .run-at .ensures) (c .before .before .before .before .before .before .before .pre .1))  -- put-views-ids-requires
-    (λ c. search needs)  -- same-length
+    (λ c. c .before .before .put-views-ids .kept .1 .1 .1 .1 .1 .0)  -- same-length
     (λ c. rw (← c .before .before .before .before .before .run-at .ensures) (c .before .before .put-views-ids .ensures)))  -- returns

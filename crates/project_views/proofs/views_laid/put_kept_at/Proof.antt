@@ -8,6 +8,6 @@ put-kept-at-spec =
     (tie.spec
     (λ c κs. search needs)  -- kept-at-requires
     (λ c κs. rw (c .before .before .kept-at .ensures) (c .before .before .before .before .before .before .before .pre .1))  -- put-kept-requires
-    (λ c. search needs)  -- same-length
-    (λ c. search needs)  -- same-length-2
+    (λ c. c .before .before .before .before .put-kept .kept .1 .1 .0)  -- same-length
+    (λ c. c .before .before .before .before .put-kept .kept .1 .1 .1 .0)  -- same-length-2
     (λ c. rw (← c .before .before .before .before .before .before .before .kept-at .ensures) (c .before .before .before .before .put-kept .ensures)))  -- returns

@@ -7,8 +7,8 @@ pub add-kept-spec : {M : Type 1} → statement M
 add-kept-spec =
     tie.close
     (tie.spec
-    (λ c. search needs)  -- enum-told
-    (λ c. search needs)  -- enum-known-k
-    (λ c κs. search needs)  -- add-left-requires
+    (λ c. c .match .keys1)  -- enum-told
+    (λ c. c .match .keys2)  -- enum-known-k
+    (λ c κs. tt)  -- add-left-requires
     (λ c. search (add-gone, needs))  -- returns
     (λ c. search (add-one-left, needs)))  -- returns-2

@@ -1,6 +1,5 @@
 use denote.Ref.{now}
 use mathlib.Core.Path.{refl, sym, _∙_}
-use borrow.Author.Needs.{needs}
 use borrow.Author.Tests.{not-true, not-false}
 use Rattle.records.specs.Decode.{treeIn}
 use Rattle.records.specs.Fill.{sum, viewFill, runFill, treeFill}
@@ -16,11 +15,11 @@ unfolding treeShown treeIn treeFill
 measure-tree-shown-spec =
     tie.close
     (tie.spec
-    (λ c κs. search needs)  -- fits-in-requires
+    (λ c κs. tt)  -- fits-in-requires
     (λ c. add-over _ _ _ _ (c .before .fits-in .ensures) (not-true _ (c .if1 .taken)))  -- returns
     (λ c κs. sym (c .before .before .before .fits-in .ensures) ∙ not-false _ (c .before .before .if1 .left))  -- add-views-shown-requires
-    (λ c. search needs)  -- enum-known-s
-    (λ c. search needs)  -- enum-told
+    (λ c. c .match .keys1)  -- enum-known-s
+    (λ c. c .match .keys2)  -- enum-told
     (λ c. let a = c .before .before .before .before .before .before .before .before .before .before .args in let t = treeShown (reachOf (now (a .pool)) (a .r)) (treeIn (now (a .runs)) (now (a .views)) (now (a .pool)) (a .t)) in added-broken (a .most) (a .c) (sum viewFill (t .l0)) (sum runFill (t .runs)) (treeFill t) refl _ (c .before .before .add-views-shown .ensures) (c .enum-told .given .1))  -- returns-2
     (λ c κs. added-is _ _ _ _ (sym (c .before .before .before .add-views-shown .ensures) ∙ c .before .s .given .1) .1)  -- add-runs-shown-requires
     (λ c. added-on _ _ _ _ _ refl _ _ _ (c .before .before .before .before .add-views-shown .ensures) (c .before .before .s .given .1) (c .add-runs-shown .ensures)))  -- returns-3

@@ -9,6 +9,6 @@ group-fill-spec =
     tie.close
     (tie.spec
     (λ c κs. search needs)  -- group-at-requires
-    (λ c κs. search needs)  -- part-requires
-    (λ c κs. search needs)  -- held-requires
+    (λ c κs. tt)  -- part-requires
+    (λ c κs. tt)  -- held-requires
     (λ c. group-filled (now (c .before .before .before .before .before .before .before .before .args .groups)) (now (c .before .before .before .before .before .before .before .before .args .work)) (now (c .before .before .before .before .before .before .before .before .args .pool)) (c .before .before .before .before .before .before .before .before .args .i) _ (c .before .before .before .before .group-at .ensures) _ (c .before .part .ensures) _ (c .held .ensures)))  -- returns

@@ -1,3 +1,6 @@
+use native.Mathlib.Numerals.{add-one}
+use lib.Arith.{sub-dec}
+use mir.Facts.{fits-le}
 use Prim.Native.Nat.{_-_}
 use mathlib.Core.Path.{sym, _∙_}
 use borrow.Author.Tests.{not-true, not-false}
@@ -22,15 +25,15 @@ measure-groups-spec =
     (tie.spec
     Inv-loop
     μ-loop
-    (λ c κs. search needs)  -- fits-in-requires
+    (λ c κs. tt)  -- fits-in-requires
     (λ c. over-before _ _ _ _ (c .before .fits-in .ensures) (not-true _ (c .if1 .taken)))  -- returns
     (λ c. summed-none (sym (c .before .fits-in .ensures) ∙ not-false _ (c .if1 .left)))  -- loop-holds
     (λ c κs. search needs)  -- group-fill-requires
-    (λ c κs. search needs)  -- add-requires
-    (λ c. search needs)  -- enum-told
+    (λ c κs. tt)  -- add-requires
+    (λ c. c .match .keys1)  -- enum-told
     (λ c. summed-broken (c .before .before .before .before .before .loop .inv) _ (c .before .before .before .before .loop-test .taken) (added-row _ _ _ _ _ (c .before .before .before .group-fill .ensures) (c .before .before .add .ensures)) (c .enum-told .given .1))  -- returns-2
-    (λ c. search needs)  -- enum-known-s
-    (λ c. search needs)  -- add-k
-    (λ c. search needs)  -- loop-less
+    (λ c. c .match .keys2)  -- enum-known-s
+    (λ c. rw (add-one (c .before .before .before .before .before .before .loop .k)) (fits-le (c .before .before .before .before .before .loop-test .taken) (c .before .before .before .before .before .before .before .before .before .before .before .before .fits .n)))  -- add-k
+    (λ c. rw (add-one (c .before .before .before .before .before .before .loop .k)) (sub-dec (c .before .before .before .before .before .before .before .before .before .before .before .before .args .n) (c .before .before .before .before .before .before .loop .k) (c .before .before .before .before .before .loop-test .taken)))  -- loop-less
     (λ c. summed-more (c .before .before .before .before .before .before .loop .inv) _ (c .before .before .before .before .before .loop-test .taken) (added-row _ _ _ _ _ (c .before .before .before .before .group-fill .ensures) (c .before .before .before .add .ensures)) (c .before .s .given .1))  -- loop-again
     (λ c. summed-all (c .before .loop .inv) (c .loop-test .left)))  -- returns-3

@@ -1,3 +1,6 @@
+use native.Mathlib.Numerals.{add-one}
+use lib.Arith.{sub-dec}
+use mir.Facts.{fits-le}
 use denote.Ref.{now}
 use Prim.Native.Nat.{_-_}
 use native.Mathlib.Omega.{arith}
@@ -9,7 +12,6 @@ use Rattle.borrows.specs.Clone.{uuidsOf}
 use Rattle.unite_groups.specs.Rows.{memberAt}
 use Rattle.unite_groups.specs.Steps.{lentAs}
 use Rattle.unite_groups.proofs.Lent.{lent-each}
-use borrow.Author.Needs.{needs}
 use Rattle.unite_groups.proofs.group_borrows_laid.put_groups.Statement.{statement}
 use Rattle.unite_groups.proofs.group_borrows_laid.put_groups.Tie as tie
 
@@ -32,10 +34,10 @@ put-groups-spec =
     μ-loop
     (λ c. let q = lent-each (now (c .before .before .before .before .before .before .before .args .groups)) (now (c .before .before .before .before .before .before .before .args .work)) (now (c .before .before .before .before .before .before .before .args .pool)) (uuidsOf (now (c .before .before .before .before .before .before .before .args .fresh))) (c .before .before .before .before .before .before .before .args .n) in let p = rw (q .0) at (c .before .before .before .before .before .before .before .pre .1) in (walk-none, grown-none (p .0), grown-none (p .1 .0), grown-none (p .1 .1)))  -- loop-holds
     (λ c κs. let i = c .before .before .before .before .loop .inv in let h = c .before .before .before .loop-test .taken in (omega (arith, c .before .before .before .before .before .before .before .before .before .before .before .before .pre .0), (grown-room (i .0) (i .1) h, (grown-room (i .0) (i .2) h, grown-room (i .0) (i .3) h))))  -- put-group-at-requires
-    (λ c. search needs)  -- add-k
-    (λ c. search needs)  -- loop-less
+    (λ c. rw (add-one (c .before .before .before .before .before .before .before .before .before .before .before .loop .k)) (fits-le (c .before .before .before .before .before .before .before .before .before .before .loop-test .taken) (c .before .before .before .before .before .before .before .before .before .before .before .before .before .before .before .before .before .before .before .fits .n)))  -- add-k
+    (λ c. rw (add-one (c .before .before .before .before .before .before .before .before .before .before .before .loop .k)) (sub-dec (c .before .before .before .before .before .before .before .before .before .before .before .before .before .before .before .before .before .before .before .args .n) (c .before .before .before .before .before .before .before .before .before .before .before .loop .k) (c .before .before .before .before .before .before .before .before .before .before .loop-test .taken)))  -- loop-less
     (λ c. let i = c .before .before .before .before .before .before .before .before .before .before .before .loop .inv in let h = c .before .before .before .before .before .before .before .before .before .before .loop-test .taken in let e = c .before .before .before .before .before .before .put-group-at .ensures in (walk-more (i .0) h (e .0), grown-more (i .0) (i .1) h (e .1 .0), grown-more (i .0) (i .2) h (e .1 .1 .0), grown-more (i .0) (i .3) h (e .1 .1 .1)))  -- loop-again
-    (λ c. search needs)  -- same-length
-    (λ c. search needs)  -- same-length-2
-    (λ c. search needs)  -- same-length-3
+    (λ c. c .before .loop .inv .1 .long)  -- same-length
+    (λ c. c .before .loop .inv .2 .long)  -- same-length-2
+    (λ c. c .before .loop .inv .3 .long)  -- same-length-3
     (λ c. let q = lent-each (now (c .before .before .before .before .before .before .before .before .before .args .groups)) (now (c .before .before .before .before .before .before .before .before .before .args .work)) (now (c .before .before .before .before .before .before .before .before .before .args .pool)) (uuidsOf (now (c .before .before .before .before .before .before .before .before .before .args .fresh))) (c .before .before .before .before .before .before .before .before .before .args .n) in let i = c .before .loop .inv in let h = c .loop-test .left in rw (q .0, q .1) (walk-all (i .0) h, (grown-all (i .0) (i .1) h, (joined-all (i .0) (i .2) h, joined-all (i .0) (i .3) h)))))  -- returns

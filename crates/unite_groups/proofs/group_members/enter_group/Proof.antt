@@ -1,3 +1,4 @@
+use mathlib.Core.Path.{_∙_}
 use Rattle.unite_groups.proofs.Entering.{joins-place, joins-members, joins-ends, alone-place, alone-members, alone-ends}
 use denote.Ref.{now}
 use native.Mathlib.Omega.{arith}
@@ -11,7 +12,7 @@ enter-group-spec =
     (tie.spec
     (λ c κs. search needs)  -- group-spot-requires
     (λ c κs. joins-place (now (c .before .before .before .before .before .before .before .before .args .groups)) (now (c .before .before .before .before .before .before .before .before .args .work)) (now (c .before .before .before .before .before .before .before .before .args .pool)) (c .before .before .before .before .before .before .before .before .args .g) (c .before .before .before .before .before .before .before .before .args .row) (c .before .before .before .before .before .before .before .before .args .s) _ (c .before .before .before .group-spot .ensures) (c .before .before .before .before .before .before .before .before .pre .1 .1 .1) (c .before .before .before .before .before .before .before .before .pre .1 .1 .0) (c .before .before .if1 .taken))  -- join-group-requires
-    (λ c. search needs)  -- same-length
+    (λ c. c .before .before .join-group .kept .0)  -- same-length
     (λ c. (joins-members (now (c .before .before .before .before .before .before .before .before .before .before .before .args .groups)) (now (c .before .before .before .before .before .before .before .before .before .before .before .args .work)) (now (c .before .before .before .before .before .before .before .before .before .before .before .args .pool)) (c .before .before .before .before .before .before .before .before .before .before .before .args .g) (c .before .before .before .before .before .before .before .before .before .before .before .args .row) (c .before .before .before .before .before .before .before .before .before .before .before .args .s) _ (c .before .before .before .before .before .before .group-spot .ensures) (c .before .before .before .before .before .before .before .before .before .before .before .pre .1 .1 .1) (c .before .before .before .before .before .before .before .before .before .before .before .pre .1 .1 .0) (c .before .before .before .before .before .if1 .taken) _ (c .before .before .join-group .ensures), (joins-ends (now (c .before .before .before .before .before .before .before .before .before .before .before .args .groups)) (now (c .before .before .before .before .before .before .before .before .before .before .before .args .work)) (now (c .before .before .before .before .before .before .before .before .before .before .before .args .pool)) (c .before .before .before .before .before .before .before .before .before .before .before .args .g) (c .before .before .before .before .before .before .before .before .before .before .before .args .row) (c .before .before .before .before .before .before .before .before .before .before .before .args .s) _ (c .before .before .before .before .before .before .group-spot .ensures) (c .before .before .before .before .before .before .before .before .before .before .before .pre .1 .1 .1) (c .before .before .before .before .before .before .before .before .before .before .before .pre .1 .1 .0) (c .before .before .before .before .before .if1 .taken) _ (c .before .before .join-group .ensures), (omega arith, omega arith))))  -- returns
     (λ c. let p = alone-place (now (c .before .before .before .before .before .before .before .before .args .groups)) (now (c .before .before .before .before .before .before .before .before .args .work)) (now (c .before .before .before .before .before .before .before .before .args .pool)) (c .before .before .before .before .before .before .before .before .args .g) (c .before .before .before .before .before .before .before .before .args .row) (c .before .before .before .before .before .before .before .before .args .s) _ (c .before .before .before .group-spot .ensures) (c .before .before .before .before .before .before .before .before .pre .1 .1 .1) (c .before .before .before .before .before .before .before .before .pre .1 .1 .0) (c .before .before .if1 .left) in omega (arith, c .before .before .before .before .before .before .before .before .pre .1 .1 .1))  -- mul-shift-words
     (λ c. omega (arith, c .before .before .before .before .before .before .before .before .before .pre .1 .1 .1))  -- mul-shift-words-2
@@ -19,5 +20,5 @@ enter-group-spec =
     (λ c κs. let p = alone-place (now (c .before .before .before .before .before .before .before .before .before .before .before .before .before .args .groups)) (now (c .before .before .before .before .before .before .before .before .before .before .before .before .before .args .work)) (now (c .before .before .before .before .before .before .before .before .before .before .before .before .before .args .pool)) (c .before .before .before .before .before .before .before .before .before .before .before .before .before .args .g) (c .before .before .before .before .before .before .before .before .before .before .before .before .before .args .row) (c .before .before .before .before .before .before .before .before .before .before .before .before .before .args .s) _ (c .before .before .before .before .before .before .before .before .group-spot .ensures) (c .before .before .before .before .before .before .before .before .before .before .before .before .before .pre .1 .1 .1) (c .before .before .before .before .before .before .before .before .before .before .before .before .before .pre .1 .1 .0) (c .before .before .before .before .before .before .before .if1 .left) in omega (arith, c .before .before .before .before .before .before .before .before .before .before .before .before .before .pre .1 .1 .1))  -- put-group-requires
     (λ c. omega (arith, c .before .before .before .before .before .before .before .before .before .before .before .before .before .before .before .before .before .pre .1 .1 .1))  -- add-t19
     (λ c. omega (arith, c .before .before .before .before .before .before .before .before .before .before .before .before .before .before .before .before .before .before .before .pre .1 .0, c .before .before .before .before .before .before .before .before .before .before .before .before .before .before .before .before .before .before .before .good .1 .1 .0))  -- add-t18
-    (λ c. search needs)  -- same-length-2
+    (λ c. c .before .before .before .before .before .put-group .kept .1 .0 ∙ c .before .before .before .before .before .before .before .before .before .shift-words .kept .0)  -- same-length-2
     (λ c. (alone-members (now (c .before .before .before .before .before .before .before .before .before .before .before .before .before .before .before .before .before .before .before .args .groups)) (now (c .before .before .before .before .before .before .before .before .before .before .before .before .before .before .before .before .before .before .before .args .work)) (now (c .before .before .before .before .before .before .before .before .before .before .before .before .before .before .before .before .before .before .before .args .pool)) (c .before .before .before .before .before .before .before .before .before .before .before .before .before .before .before .before .before .before .before .args .g) (c .before .before .before .before .before .before .before .before .before .before .before .before .before .before .before .before .before .before .before .args .row) (c .before .before .before .before .before .before .before .before .before .before .before .before .before .before .before .before .before .before .before .args .s) _ (c .before .before .before .before .before .before .before .before .before .before .before .before .before .before .group-spot .ensures) (c .before .before .before .before .before .before .before .before .before .before .before .before .before .before .before .before .before .before .before .pre .1 .1 .1) (c .before .before .before .before .before .before .before .before .before .before .before .before .before .before .before .before .before .before .before .pre .1 .1 .0) (c .before .before .before .before .before .before .before .before .before .before .before .before .before .if1 .left) _ _ (c .before .before .before .before .before .before .before .before .before .shift-words .ensures) (c .before .before .before .before .before .put-group .ensures), (alone-ends (now (c .before .before .before .before .before .before .before .before .before .before .before .before .before .before .before .before .before .before .before .args .groups)) (now (c .before .before .before .before .before .before .before .before .before .before .before .before .before .before .before .before .before .before .before .args .work)) (now (c .before .before .before .before .before .before .before .before .before .before .before .before .before .before .before .before .before .before .before .args .pool)) (c .before .before .before .before .before .before .before .before .before .before .before .before .before .before .before .before .before .before .before .args .g) (c .before .before .before .before .before .before .before .before .before .before .before .before .before .before .before .before .before .before .before .args .row) (c .before .before .before .before .before .before .before .before .before .before .before .before .before .before .before .before .before .before .before .args .s) _ (c .before .before .before .before .before .before .before .before .before .before .before .before .before .before .group-spot .ensures) (c .before .before .before .before .before .before .before .before .before .before .before .before .before .before .before .before .before .before .before .pre .1 .1 .1) (c .before .before .before .before .before .before .before .before .before .before .before .before .before .before .before .before .before .before .before .pre .1 .1 .0) (c .before .before .before .before .before .before .before .before .before .before .before .before .before .if1 .left) _ _ (c .before .before .before .before .before .before .before .before .before .shift-words .ensures) (c .before .before .before .before .before .put-group .ensures) (c .before .before .before .before .before .before .before .before .before .before .before .before .before .before .before .before .before .before .before .pre .0), (omega arith, omega arith)))))  -- returns-2

@@ -7,7 +7,7 @@ pub final-of-spec : {M : Type 1} → statement M
 final-of-spec =
     tie.close
     (tie.spec
-    (λ c. search needs)  -- enum-told
-    (λ c. search needs)  -- enum-known-f
+    (λ c. c .match .keys1)  -- enum-told
+    (λ c. c .match .keys2)  -- enum-known-f
     (λ c. search (final-none, needs))  -- returns
     (λ c. search needs))  -- returns-2

@@ -9,7 +9,7 @@ join-group-spec =
     tie.close
     (tie.spec
     (λ c κs. search needs)  -- group-at-requires
-    (λ c κs. search needs)  -- better-of-requires
+    (λ c κs. tt)  -- better-of-requires
     (λ c κs. search needs)  -- put-group-requires
-    (λ c. search needs)  -- same-length
+    (λ c. c .before .before .put-group .kept .1 .0)  -- same-length
     (λ c. joined-row (now (c .before .before .before .before .before .before .before .before .before .before .before .args .groups)) (c .before .before .before .before .before .before .before .before .before .before .before .args .i) (c .before .before .before .before .before .before .before .before .before .before .before .args .s) (c .before .before .before .before .before .before .before .before .before .before .before .args .u) _ (c .before .before .before .before .before .before .before .before .group-at .ensures) _ (c .before .before .before .before .better-of .ensures) _ (c .before .before .put-group .ensures)))  -- returns

@@ -1,3 +1,6 @@
+use native.Mathlib.Numerals.{add-one}
+use lib.Arith.{sub-dec}
+use mir.Facts.{fits-le}
 use denote.Ref.{now}
 use Prim.Native.Nat.{_+_, _-_}
 use borrow.Author.Needs.{needs}
@@ -19,13 +22,13 @@ enter-ids-spec =
     (tie.spec
     Inv-loop
     μ-loop
-    (λ c κs. search needs)  -- held-requires
+    (λ c κs. tt)  -- held-requires
     (λ c. setting-none _ _ _ _ (window-ids (now (c .before .before .before .args .ids)) (c .before .before .before .args .from) _ (c .held .ensures) .1 (c .before .before .before .args .first) _ (c .before .before .before .pre)))  -- loop-holds
     (λ c. search (rows, needs))  -- add-id-at
     (λ c κs. search (rows, needs))  -- id-at-requires
     (λ c κs. setting-room _ _ _ _ _ _ _ (c .before .before .before .before .loop .inv) (c .before .before .before .loop-test .taken))  -- enter-id-requires
-    (λ c. search needs)  -- add-k
-    (λ c. search needs)  -- loop-less
+    (λ c. rw (add-one (c .before .before .before .before .before .before .before .loop .k)) (fits-le (c .before .before .before .before .before .before .loop-test .taken) (record { fits = c .before .before .before .before .before .before .before .before .held .ok })))  -- add-k
+    (λ c. rw (add-one (c .before .before .before .before .before .before .before .loop .k)) (sub-dec (c .before .before .before .before .before .before .before .before .held .result) (c .before .before .before .before .before .before .before .loop .k) (c .before .before .before .before .before .before .loop-test .taken)))  -- loop-less
     (λ c. setting-more _ _ _ _ _ _ _ (c .before .before .before .before .before .before .before .loop .inv) (c .before .before .before .before .before .before .loop-test .taken) _ _ _ (c .before .before .before .before .id-at .ensures) (c .before .before .enter-id .ensures .0) (c .before .before .enter-id .ensures .1))  -- loop-again
     (λ c. search needs)  -- same-length
     (λ c. setting-all _ _ _ _ _ _ _ (c .before .loop .inv) (c .loop-test .left) _ (window-ids (now (c .before .before .before .before .before .args .ids)) (c .before .before .before .before .before .args .from) _ (c .before .before .held .ensures) .0)))  -- returns

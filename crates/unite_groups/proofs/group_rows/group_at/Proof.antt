@@ -10,11 +10,11 @@ group-at-spec =
     (λ c. search needs)  -- mul-b
     (λ c. search needs)  -- mul-ix
     (λ c. search needs)  -- shared-slice-read-ix
-    (λ c κs. search needs)  -- ix-requires
+    (λ c κs. tt)  -- ix-requires
     (λ c. search needs)  -- add-ix
     (λ c. search needs)  -- mul-ix-2
     (λ c. search needs)  -- shared-slice-read-ix-2
-    (λ c κs. search needs)  -- ix-requires-2
+    (λ c κs. tt)  -- ix-requires-2
     (λ c. search needs)  -- add-t14
     (λ c. search needs)  -- mul-t15
     (λ c. search needs)  -- shared-slice-read-t17
@@ -24,9 +24,9 @@ group-at-spec =
     (λ c. search needs)  -- add-ix-2
     (λ c. search needs)  -- mul-ix-3
     (λ c. search needs)  -- shared-slice-read-ix-3
-    (λ c κs. search needs)  -- ix-requires-3
+    (λ c κs. tt)  -- ix-requires-3
     (λ c. search needs)  -- add-ix-3
     (λ c. search needs)  -- mul-ix-4
     (λ c. search needs)  -- shared-slice-read-ix-4
-    (λ c κs. search needs)  -- ix-requires-4
+    (λ c κs. tt)  -- ix-requires-4
     (λ c. group-made _ _ _ _ _ _ (c .before .before .before .before .before .before .before .before .ix .ensures) (c .before .before .before .before .before .before .ix2 .ensures) (c .before .before .ix3 .ensures) (c .ix4 .ensures)))  -- returns

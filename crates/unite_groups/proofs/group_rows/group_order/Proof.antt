@@ -9,13 +9,13 @@ group-order-spec =
     tie.close
     (tie.spec
     (λ c κs. search needs)  -- group-at-requires
-    (λ c κs. search needs)  -- part-requires
-    (λ c κs. search needs)  -- part-requires-2
-    (λ c κs. search needs)  -- compare-requires
-    (λ c. search needs)  -- enum-told
-    (λ c. search needs)  -- enum-told-2
-    (λ c κs. search needs)  -- list-order-requires
-    (λ c. search needs)  -- enum-told-3
+    (λ c κs. tt)  -- part-requires
+    (λ c κs. tt)  -- part-requires-2
+    (λ c κs. tt)  -- compare-requires
+    (λ c. c .match .keys1)  -- enum-told
+    (λ c. c .match .keys2)  -- enum-told-2
+    (λ c κs. tt)  -- list-order-requires
+    (λ c. c .match .keys3)  -- enum-told-3
     (λ c. row-less (now (c .before .before .before .before .before .before .before .before .before .before .before .args .groups)) (now (c .before .before .before .before .before .before .before .before .before .before .before .args .work)) (now (c .before .before .before .before .before .before .before .before .before .before .before .args .pool)) (c .before .before .before .before .before .before .before .before .before .before .before .args .i) (c .before .before .before .before .before .before .before .before .before .before .before .args .g) _ (c .before .before .before .before .before .before .before .group-at .ensures) _ _ (c .before .before .before .before .part .ensures) (c .before .before .before .part2 .ensures) _ (c .before .before .compare .ensures) (c .enum-told .given .1))  -- returns
     (λ c. row-by-ids (now (c .before .before .before .before .before .before .before .before .before .before .before .before .before .before .args .groups)) (now (c .before .before .before .before .before .before .before .before .before .before .before .before .before .before .args .work)) (now (c .before .before .before .before .before .before .before .before .before .before .before .before .before .before .args .pool)) (c .before .before .before .before .before .before .before .before .before .before .before .before .before .before .args .i) (c .before .before .before .before .before .before .before .before .before .before .before .before .before .before .args .g) _ (c .before .before .before .before .before .before .before .before .before .before .group-at .ensures) _ _ (c .before .before .before .before .before .before .before .part .ensures) (c .before .before .before .before .before .before .part2 .ensures) _ (c .before .before .before .before .before .compare .ensures) _ (c .before .before .before .enum-told2 .given .1) (c .list-order .ensures))  -- returns-2
     (λ c. row-more (now (c .before .before .before .before .before .before .before .before .before .before .before .args .groups)) (now (c .before .before .before .before .before .before .before .before .before .before .before .args .work)) (now (c .before .before .before .before .before .before .before .before .before .before .before .args .pool)) (c .before .before .before .before .before .before .before .before .before .before .before .args .i) (c .before .before .before .before .before .before .before .before .before .before .before .args .g) _ (c .before .before .before .before .before .before .before .group-at .ensures) _ _ (c .before .before .before .before .part .ensures) (c .before .before .before .part2 .ensures) _ (c .before .before .compare .ensures) (c .enum-told3 .given .1)))  -- returns-3

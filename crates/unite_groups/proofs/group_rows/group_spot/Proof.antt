@@ -1,3 +1,6 @@
+use native.Mathlib.Numerals.{add-one}
+use lib.Arith.{sub-dec}
+use mir.Facts.{fits-le}
 use Prim.Native.Nat.{_-_}
 use mathlib.Core.Path.{refl}
 use borrow.Author.Needs.{needs}
@@ -21,12 +24,12 @@ group-spot-spec =
     μ-loop
     (λ c. spotted-none _ _ _ _ _ refl refl)  -- loop-holds
     (λ c κs. search needs)  -- group-order-requires
-    (λ c. search needs)  -- enum-told
+    (λ c. c .match .keys1)  -- enum-told
     (λ c. spotted-less _ _ _ _ _ (c .before .before .before .before .loop .inv) (c .before .before .before .loop-test .taken) _ (c .before .before .group-order .ensures) (c .enum-told .given .1))  -- returns
-    (λ c. search needs)  -- enum-told-2
+    (λ c. c .match .keys2)  -- enum-told-2
     (λ c. spotted-same _ _ _ _ _ (c .before .before .before .before .loop .inv) (c .before .before .before .loop-test .taken) _ (c .before .before .group-order .ensures) (c .enum-told2 .given .1))  -- returns-2
-    (λ c. search needs)  -- enum-told-3
-    (λ c. search needs)  -- add-k
-    (λ c. search needs)  -- loop-less
+    (λ c. c .match .keys3)  -- enum-told-3
+    (λ c. rw (add-one (c .before .before .before .before .loop .k)) (fits-le (c .before .before .before .loop-test .taken) (c .before .before .before .before .before .before .before .before .fits .n)))  -- add-k
+    (λ c. rw (add-one (c .before .before .before .before .loop .k)) (sub-dec (c .before .before .before .before .before .before .before .before .args .n) (c .before .before .before .before .loop .k) (c .before .before .before .loop-test .taken)))  -- loop-less
     (λ c. spotted-more _ _ _ _ _ (c .before .before .before .before .loop .inv) (c .before .before .before .loop-test .taken) _ (c .before .before .group-order .ensures) (c .enum-told3 .given .1))  -- loop-again
     (λ c. spotted-all _ _ _ _ _ (c .before .loop .inv) (c .loop-test .left)))  -- returns-3

@@ -1,3 +1,6 @@
+use native.Mathlib.Numerals.{add-one}
+use lib.Arith.{sub-dec}
+use mir.Facts.{fits-le}
 use Prim.Native.Nat.{_+_, _-_}
 use borrow.Author.Needs.{needs}
 use Rattle.lawful.proofs.Loops.{rows}
@@ -22,17 +25,17 @@ id-spot-spec =
     (tie.spec
     Inv-loop
     μ-loop
-    (λ c κs. search needs)  -- held-requires
+    (λ c κs. tt)  -- held-requires
     (λ c. search (id-spotted-none, needs))  -- loop-holds
     (λ c. search (rows, needs))  -- add-id-at
     (λ c κs. search (rows, needs))  -- id-at-requires
-    (λ c κs. search needs)  -- order-sst-requires
-    (λ c. search needs)  -- enum-told
+    (λ c κs. tt)  -- order-sst-requires
+    (λ c. c .match .keys1)  -- enum-told
     (λ c. search (id-spotted, needs))  -- returns
-    (λ c. search needs)  -- enum-told-2
+    (λ c. c .match .keys2)  -- enum-told-2
     (λ c. search (id-spotted, needs))  -- returns-2
-    (λ c. search needs)  -- enum-told-3
-    (λ c. search needs)  -- add-k
-    (λ c. search needs)  -- loop-less
+    (λ c. c .match .keys3)  -- enum-told-3
+    (λ c. rw (add-one (c .before .before .before .before .before .before .loop .k)) (fits-le (c .before .before .before .before .before .loop-test .taken) (record { fits = c .before .before .before .before .before .before .before .held .ok })))  -- add-k
+    (λ c. rw (add-one (c .before .before .before .before .before .before .loop .k)) (sub-dec (c .before .before .before .before .before .before .before .held .result) (c .before .before .before .before .before .before .loop .k) (c .before .before .before .before .before .loop-test .taken)))  -- loop-less
     (λ c. search (id-spotted, needs))  -- loop-again
     (λ c. search (spots, needs)))  -- returns-3

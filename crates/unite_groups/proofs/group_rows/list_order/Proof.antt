@@ -1,3 +1,6 @@
+use native.Mathlib.Numerals.{add-one}
+use lib.Arith.{sub-dec}
+use mir.Facts.{fits-le}
 use Prim.Native.Nat.{_-_}
 use native.Mathlib.Omega.{arith}
 use borrow.Author.Needs.{needs}
@@ -20,22 +23,22 @@ list-order-spec =
     (tie.spec
     Inv-loop
     μ-loop
-    (λ c κs. search needs)  -- held-requires
-    (λ c κs. search needs)  -- held-requires-2
+    (λ c κs. tt)  -- held-requires
+    (λ c κs. tt)  -- held-requires-2
     (λ c. search (evens, needs))  -- loop-holds
     (λ c. even-short _ _ _ _ _ _ (c .before .before .loop .inv) (c .before .loop-test .taken) (omega (arith, c .if1 .taken)))  -- returns
     (λ c. search (rows, needs))  -- add-id-at
     (λ c κs. search (rows, needs))  -- id-at-requires
     (λ c. search (rows, needs))  -- add-id-at-2
     (λ c κs. search (rows, needs))  -- id-at-requires-2
-    (λ c κs. search needs)  -- order-sst-requires
-    (λ c. search needs)  -- enum-told
+    (λ c κs. tt)  -- order-sst-requires
+    (λ c. c .match .keys1)  -- enum-told
     (λ c. even-less _ _ _ _ _ _ (c .before .before .before .before .before .before .before .before .before .loop .inv) (c .before .before .before .before .before .before .before .before .loop-test .taken) (c .before .before .before .before .before .before .before .if1 .left) _ _ _ (c .before .before .before .before .before .id-at .ensures) (c .before .before .before .id-at2 .ensures) (c .before .before .order-sst .ensures) (c .enum-told .given .1))  -- returns-2
-    (λ c. search needs)  -- enum-told-2
-    (λ c. search needs)  -- add-k
-    (λ c. search needs)  -- loop-less
+    (λ c. c .match .keys2)  -- enum-told-2
+    (λ c. rw (add-one (c .before .before .before .before .before .before .before .before .before .loop .k)) (fits-le (c .before .before .before .before .before .before .before .before .loop-test .taken) (record { fits = c .before .before .before .before .before .before .before .before .before .before .before .held .ok })))  -- add-k
+    (λ c. rw (add-one (c .before .before .before .before .before .before .before .before .before .loop .k)) (sub-dec (c .before .before .before .before .before .before .before .before .before .before .before .held .result) (c .before .before .before .before .before .before .before .before .before .loop .k) (c .before .before .before .before .before .before .before .before .loop-test .taken)))  -- loop-less
     (λ c. even-same _ _ _ _ _ _ (c .before .before .before .before .before .before .before .before .before .loop .inv) (c .before .before .before .before .before .before .before .before .loop-test .taken) (c .before .before .before .before .before .before .before .if1 .left) _ _ _ (c .before .before .before .before .before .id-at .ensures) (c .before .before .before .id-at2 .ensures) (c .before .before .order-sst .ensures) (c .enum-told2 .given .1))  -- loop-again
-    (λ c. search needs)  -- enum-told-3
+    (λ c. c .match .keys3)  -- enum-told-3
     (λ c. even-greater _ _ _ _ _ _ (c .before .before .before .before .before .before .before .before .before .loop .inv) (c .before .before .before .before .before .before .before .before .loop-test .taken) (c .before .before .before .before .before .before .before .if1 .left) _ _ _ (c .before .before .before .before .before .id-at .ensures) (c .before .before .before .id-at2 .ensures) (c .before .before .order-sst .ensures) (c .enum-told3 .given .1))  -- returns-3
     (λ c. search (evens, needs))  -- returns-4
     (λ c. search (evens, needs)))  -- returns-5

@@ -1,3 +1,6 @@
+use native.Mathlib.Numerals.{add-one}
+use lib.Arith.{sub-dec}
+use mir.Facts.{fits-le}
 use denote.Ref.{now}
 use Prim.Native.Nat.{_-_}
 use mathlib.Core.Path.{ap, _∙_}
@@ -11,7 +14,6 @@ use Rattle.unite_trees.specs.Joined.{treeL0}
 use Rattle.unite_trees.specs.Rows.{treesIn}
 use Rattle.unite_trees.specs.Steps.{treeOf}
 use Rattle.unite_trees.proofs.Parts.{all-joined, views-fill-is, views-rows-are, views-bytes-are}
-use borrow.Author.Needs.{needs}
 use Rattle.unite_trees.proofs.trees_laid.put_l0.Statement.{statement}
 use Rattle.unite_trees.proofs.trees_laid.put_l0.Tie as tie
 
@@ -30,9 +32,9 @@ put-l0-spec =
     μ-loop
     (λ c. let f = views-fill-is (joined treeL0 (upTo (treeOf (now (c .before .before .before .before .before .before .before .args .t)) (now (c .before .before .before .before .before .before .before .args .rows)) (now (c .before .before .before .before .before .before .before .args .runs)) (now (c .before .before .before .before .before .before .before .args .views)) (now (c .before .before .before .before .before .before .before .args .pool))) (c .before .before .before .before .before .before .before .args .n))) (upTo (λ i. treeL0 ((treeOf (now (c .before .before .before .before .before .before .before .args .t)) (now (c .before .before .before .before .before .before .before .args .rows)) (now (c .before .before .before .before .before .before .before .args .runs)) (now (c .before .before .before .before .before .before .before .args .views)) (now (c .before .before .before .before .before .before .before .args .pool))) i)) (c .before .before .before .before .before .before .before .args .n)) (all-joined treeL0 (treeOf (now (c .before .before .before .before .before .before .before .args .t)) (now (c .before .before .before .before .before .before .before .args .rows)) (now (c .before .before .before .before .before .before .before .args .runs)) (now (c .before .before .before .before .before .before .before .args .views)) (now (c .before .before .before .before .before .before .before .args .pool))) (c .before .before .before .before .before .before .before .args .n)) in (walk-none, grown-none (rw f (c .before .before .before .before .before .before .before .pre .1 .0)), grown-none (rw f (c .before .before .before .before .before .before .before .pre .1 .1))))  -- loop-holds
     (λ c κs. let i = c .before .before .before .loop .inv in let h = c .before .before .loop-test .taken in (omega arith, (grown-room (i .0) (i .1) h, grown-room (i .0) (i .2) h)))  -- put-l0-at-requires
-    (λ c. search needs)  -- add-k
-    (λ c. search needs)  -- loop-less
+    (λ c. rw (add-one (c .before .before .before .before .before .before .before .before .loop .k)) (fits-le (c .before .before .before .before .before .before .before .loop-test .taken) (c .before .before .before .before .before .before .before .before .before .before .before .before .before .before .before .before .fits .n)))  -- add-k
+    (λ c. rw (add-one (c .before .before .before .before .before .before .before .before .loop .k)) (sub-dec (c .before .before .before .before .before .before .before .before .before .before .before .before .before .before .before .before .args .n) (c .before .before .before .before .before .before .before .before .loop .k) (c .before .before .before .before .before .before .before .loop-test .taken)))  -- loop-less
     (λ c. let i = c .before .before .before .before .before .before .before .before .loop .inv in let h = c .before .before .before .before .before .before .before .loop-test .taken in let e = c .before .before .before .before .put-l0-at .ensures in (walk-more (i .0) h (e .0), grown-more (i .0) (i .1) h (e .1 .0), grown-more (i .0) (i .2) h (e .1 .1)))  -- loop-again
-    (λ c. search needs)  -- same-length
-    (λ c. search needs)  -- same-length-2
+    (λ c. c .before .loop .inv .1 .long)  -- same-length
+    (λ c. c .before .loop .inv .2 .long)  -- same-length-2
     (λ c. let i = c .before .loop .inv in let h = c .loop-test .left in (walk-all (i .0) h ∙ ap (plus (c .before .before .before .before .before .before .before .before .before .args .c)) (views-fill-is (joined treeL0 (upTo (treeOf (now (c .before .before .before .before .before .before .before .before .before .args .t)) (now (c .before .before .before .before .before .before .before .before .before .args .rows)) (now (c .before .before .before .before .before .before .before .before .before .args .runs)) (now (c .before .before .before .before .before .before .before .before .before .args .views)) (now (c .before .before .before .before .before .before .before .before .before .args .pool))) (c .before .before .before .before .before .before .before .before .before .args .n))) (upTo (λ i. treeL0 ((treeOf (now (c .before .before .before .before .before .before .before .before .before .args .t)) (now (c .before .before .before .before .before .before .before .before .before .args .rows)) (now (c .before .before .before .before .before .before .before .before .before .args .runs)) (now (c .before .before .before .before .before .before .before .before .before .args .views)) (now (c .before .before .before .before .before .before .before .before .before .args .pool))) i)) (c .before .before .before .before .before .before .before .before .before .args .n)) (all-joined treeL0 (treeOf (now (c .before .before .before .before .before .before .before .before .before .args .t)) (now (c .before .before .before .before .before .before .before .before .before .args .rows)) (now (c .before .before .before .before .before .before .before .before .before .args .runs)) (now (c .before .before .before .before .before .before .before .before .before .args .views)) (now (c .before .before .before .before .before .before .before .before .before .args .pool))) (c .before .before .before .before .before .before .before .before .before .args .n))), (views-rows-are (joined treeL0 (upTo (treeOf (now (c .before .before .before .before .before .before .before .before .before .args .t)) (now (c .before .before .before .before .before .before .before .before .before .args .rows)) (now (c .before .before .before .before .before .before .before .before .before .args .runs)) (now (c .before .before .before .before .before .before .before .before .before .args .views)) (now (c .before .before .before .before .before .before .before .before .before .args .pool))) (c .before .before .before .before .before .before .before .before .before .args .n))) (upTo (λ i. treeL0 ((treeOf (now (c .before .before .before .before .before .before .before .before .before .args .t)) (now (c .before .before .before .before .before .before .before .before .before .args .rows)) (now (c .before .before .before .before .before .before .before .before .before .args .runs)) (now (c .before .before .before .before .before .before .before .before .before .args .views)) (now (c .before .before .before .before .before .before .before .before .before .args .pool))) i)) (c .before .before .before .before .before .before .before .before .before .args .n)) (all-joined treeL0 (treeOf (now (c .before .before .before .before .before .before .before .before .before .args .t)) (now (c .before .before .before .before .before .before .before .before .before .args .rows)) (now (c .before .before .before .before .before .before .before .before .before .args .runs)) (now (c .before .before .before .before .before .before .before .before .before .args .views)) (now (c .before .before .before .before .before .before .before .before .before .args .pool))) (c .before .before .before .before .before .before .before .before .before .args .n)) (c .before .before .before .before .before .before .before .before .before .args .c) _ _ (grown-all (i .0) (i .1) h), views-bytes-are (joined treeL0 (upTo (treeOf (now (c .before .before .before .before .before .before .before .before .before .args .t)) (now (c .before .before .before .before .before .before .before .before .before .args .rows)) (now (c .before .before .before .before .before .before .before .before .before .args .runs)) (now (c .before .before .before .before .before .before .before .before .before .args .views)) (now (c .before .before .before .before .before .before .before .before .before .args .pool))) (c .before .before .before .before .before .before .before .before .before .args .n))) (upTo (λ i. treeL0 ((treeOf (now (c .before .before .before .before .before .before .before .before .before .args .t)) (now (c .before .before .before .before .before .before .before .before .before .args .rows)) (now (c .before .before .before .before .before .before .before .before .before .args .runs)) (now (c .before .before .before .before .before .before .before .before .before .args .views)) (now (c .before .before .before .before .before .before .before .before .before .args .pool))) i)) (c .before .before .before .before .before .before .before .before .before .args .n)) (all-joined treeL0 (treeOf (now (c .before .before .before .before .before .before .before .before .before .args .t)) (now (c .before .before .before .before .before .before .before .before .before .args .rows)) (now (c .before .before .before .before .before .before .before .before .before .args .runs)) (now (c .before .before .before .before .before .before .before .before .before .args .views)) (now (c .before .before .before .before .before .before .before .before .before .args .pool))) (c .before .before .before .before .before .before .before .before .before .args .n)) (c .before .before .before .before .before .before .before .before .before .args .c) _ _ (joined-all (i .0) (i .2) h)))))  -- returns

@@ -10,6 +10,6 @@ put-l0-at-spec =
     (tie.spec
     (λ c κs. search needs)  -- tree-of-requires
     (λ c κs. rw (c .before .before .before .tree-of .ensures) (c .before .before .before .before .before .before .before .before .before .before .before .pre .1))  -- put-views-requires
-    (λ c. search needs)  -- same-length
-    (λ c. search needs)  -- same-length-2
+    (λ c. c .before .before .before .before .put-views .kept .1 .1 .1 .0)  -- same-length
+    (λ c. c .before .before .before .before .put-views .kept .1 .1 .1 .1 .0)  -- same-length-2
     (λ c. rw (← c .before .before .before .before .before .before .before .before .tree-of .ensures) (c .before .before .before .before .put-views .ensures)))  -- returns

@@ -10,8 +10,8 @@ add-run-at-spec =
     (tie.spec
     (λ c κs. search needs)  -- run-at-requires
     (λ c κs. search needs)  -- add-views-requires
-    (λ c. search needs)  -- enum-known-s
-    (λ c. search needs)  -- enum-told
+    (λ c. c .match .keys1)  -- enum-known-s
+    (λ c. c .match .keys2)  -- enum-told
     (λ c. run-broken (c .before .before .before .before .before .before .before .before .args .most) (c .before .before .before .before .before .before .before .before .args .c) (now (c .before .before .before .before .before .before .before .before .args .views)) (now (c .before .before .before .before .before .before .before .before .args .pool)) (now (c .before .before .before .before .before .before .before .before .args .runs)) (c .before .before .before .before .before .before .before .before .args .i) _ (c .before .before .before .before .run-at .ensures) _ (c .before .before .add-views .ensures) (c .enum-told .given .1))  -- returns
-    (λ c κs. search needs)  -- add-requires
+    (λ c κs. tt)  -- add-requires
     (λ c. run-added (c .before .before .before .before .before .before .before .before .before .before .args .most) (c .before .before .before .before .before .before .before .before .before .before .args .c) (now (c .before .before .before .before .before .before .before .before .before .before .args .views)) (now (c .before .before .before .before .before .before .before .before .before .before .args .pool)) (now (c .before .before .before .before .before .before .before .before .before .before .args .runs)) (c .before .before .before .before .before .before .before .before .before .before .args .i) _ (c .before .before .before .before .before .before .run-at .ensures) _ (c .before .before .before .before .add-views .ensures) _ _ (c .before .before .s .given .1) (c .add .ensures)))  -- returns-2

@@ -13,5 +13,5 @@ add-view-at-spec =
     tie.close
     (tie.spec
     (λ c κs. search needs)  -- view-at-requires
-    (λ c κs. search needs)  -- add-view-requires
+    (λ c κs. tt)  -- add-view-requires
     (λ c. c .add-view .ensures ∙ ap (λ (v : ViewRow). addOf (c .before .before .before .before .args .most) (c .before .before .before .before .args .c) (viewFill (viewIn (now (c .before .before .before .before .args .pool)) v))) (c .before .view-at .ensures)))  -- returns

@@ -1,3 +1,6 @@
+use native.Mathlib.Numerals.{add-one}
+use lib.Arith.{sub-dec}
+use mir.Facts.{fits-le}
 use denote.Ref.{now}
 use native.Mathlib.Omega.{arith}
 use Prim.Native.Nat.{_-_}
@@ -11,7 +14,6 @@ use Rattle.project_views.proofs.Summed.{Summed, summed-none, summed-fits, summe
 use Rattle.unite_trees.specs.Rows.{treesIn}
 use Rattle.unite_trees.specs.Steps.{treeOf}
 use Rattle.unite_trees.proofs.Parts.{trees-fill}
-use borrow.Author.Needs.{needs}
 use Rattle.unite_trees.proofs.trees_measured.measure_joined.Statement.{statement}
 use Rattle.unite_trees.proofs.trees_measured.measure_joined.Tie as tie
 
@@ -28,14 +30,14 @@ measure-joined-spec =
     (tie.spec
     Inv-loop
     μ-loop
-    (λ c κs. search needs)  -- fits-in-requires
+    (λ c κs. tt)  -- fits-in-requires
     (λ c. add-over _ _ _ _ (c .before .fits-in .ensures) (not-true _ (c .if1 .taken)))  -- returns
     (λ c. summed-none (sym (c .before .fits-in .ensures) ∙ not-false _ (c .if1 .left)))  -- loop-holds
     (λ c κs. (omega arith, summed-fits (c .before .loop .inv)))  -- add-tree-at-requires
-    (λ c. search needs)  -- enum-known-s
-    (λ c. search needs)  -- enum-told
+    (λ c. c .match .keys1)  -- enum-known-s
+    (λ c. c .match .keys2)  -- enum-told
     (λ c. summed-broken (c .before .before .before .before .loop .inv) _ (c .before .before .before .loop-test .taken) (c .before .before .add-tree-at .ensures) (c .enum-told .given .1) ∙ ap (addOf (c .before .before .before .before .before .before .before .before .before .before .before .before .args .most) (c .before .before .before .before .before .before .before .before .before .before .before .before .args .c)) (trees-fill (upTo (treeOf (now (c .before .before .before .before .before .before .before .before .before .before .before .before .args .t)) (now (c .before .before .before .before .before .before .before .before .before .before .before .before .args .rows)) (now (c .before .before .before .before .before .before .before .before .before .before .before .before .args .runs)) (now (c .before .before .before .before .before .before .before .before .before .before .before .before .args .views)) (now (c .before .before .before .before .before .before .before .before .before .before .before .before .args .pool))) (c .before .before .before .before .before .before .before .before .before .before .before .before .args .n))))  -- returns-2
-    (λ c. search needs)  -- add-k
-    (λ c. search needs)  -- loop-less
+    (λ c. rw (add-one (c .before .before .before .before .before .loop .k)) (fits-le (c .before .before .before .before .loop-test .taken) (c .before .before .before .before .before .before .before .before .before .before .before .before .before .fits .n)))  -- add-k
+    (λ c. rw (add-one (c .before .before .before .before .before .loop .k)) (sub-dec (c .before .before .before .before .before .before .before .before .before .before .before .before .before .args .n) (c .before .before .before .before .before .loop .k) (c .before .before .before .before .loop-test .taken)))  -- loop-less
     (λ c. summed-more (c .before .before .before .before .before .loop .inv) _ (c .before .before .before .before .loop-test .taken) (c .before .before .before .add-tree-at .ensures) (c .before .s .given .1))  -- loop-again
     (λ c. summed-all (c .before .loop .inv) (c .loop-test .left) ∙ ap (addOf (c .before .before .before .before .before .before .before .before .before .args .most) (c .before .before .before .before .before .before .before .before .before .args .c)) (trees-fill (upTo (treeOf (now (c .before .before .before .before .before .before .before .before .before .args .t)) (now (c .before .before .before .before .before .before .before .before .before .args .rows)) (now (c .before .before .before .before .before .before .before .before .before .args .runs)) (now (c .before .before .before .before .before .before .before .before .before .args .views)) (now (c .before .before .before .before .before .before .before .before .before .args .pool))) (c .before .before .before .before .before .before .before .before .before .args .n)))))  -- returns-3

@@ -13,6 +13,6 @@ tree-of-spec =
     (λ c. search needs)  -- mul-ix
     (λ c. search needs)  -- mul-ix-2
     (λ c. search needs)  -- shared-slice-read-ix
-    (λ c κs. search needs)  -- ix-requires
-    (λ c κs. search needs)  -- tree-at-requires
+    (λ c κs. tt)  -- ix-requires
+    (λ c κs. tt)  -- tree-at-requires
     (λ c. c .tree-at .ensures ∙ ap (λ (b : ℕ). treeAt (now (c .before .before .before .before .before .args .t)) b) (c .before .ix .ensures)))  -- returns

@@ -6,9 +6,9 @@ pub window-at-spec : {M : Type 1} → statement M
 window-at-spec =
     tie.close
     (tie.spec
-    (λ c κs. search needs)  -- word-requires
+    (λ c κs. tt)  -- word-requires
     (λ c. search needs)  -- add-word
-    (λ c κs. search needs)  -- word-requires-2
-    (λ c κs. search needs)  -- ix-requires
-    (λ c κs. search needs)  -- ix-requires-2
+    (λ c κs. tt)  -- word-requires-2
+    (λ c κs. tt)  -- ix-requires
+    (λ c κs. tt)  -- ix-requires-2
     (λ c. cc))  -- returns
