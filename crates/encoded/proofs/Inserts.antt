@@ -41,7 +41,8 @@ use Rattle.manifest_write.specs.declared.Written.the-variants as write
 use Rattle.manifest_read.specs.Answer.{workRoom}
 use Rattle.encoded.specs.Encoded.{refused as unread, encodedOf, longOf}
 use Rattle.encoded.specs.InTables.{rowsIn}
-use Rattle.encoded.specs.Insert.{Outcome, refusedTo, wrote, enteredTo, laidTo, insertedIn, bothFit, insertTo}
+use Rattle.encoded.specs.Insert.{Outcome, refusedTo, wrote, enteredTo, insertedIn, insertTo}
+use Rattle.encoded.specs.Steps.{laidTo, bothFit}
 use Rattle.encoded.specs.declared.InsertedTo.the-variants.{Found, Entered, Refused}
 use Rattle.encoded.specs.declared.Rows.the-variants.{Are}
 

@@ -1,4 +1,4 @@
--- What the working tables stand for once bytes were read into them.
+-- What the working tables stand for once bytes were read into them. No public promise speaks of it.
 use Rattle.keys.specs.Pick.{pick}
 use Rattle.records.specs.Fill.{fits}
 use Rattle.records.specs.Decode.{Lent, manifestIn}

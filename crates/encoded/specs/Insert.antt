@@ -1,20 +1,18 @@
 -- Insert on an encoded manifest.
 use Prim.Native.Nat.{ℕ}
-use mathlib.Core.Bool.{Bool, not, _&&_, _||_}
+use mathlib.Core.Bool.{not, _||_}
 use mathlib.Core.List.{List, [], _∷_}
 use Rattle.keys.specs.Pick.{pick}
 use Rattle.records.specs.Fill.{fits}
-use Rattle.records.specs.Decode.{Lent, manifestIn}
+use Rattle.records.specs.Decode.{Lent}
 use Rattle.records.specs.Refusals.{refusal}
 use Rattle.records.specs.declared.Fill.{Fill}
 use Rattle.records.specs.declared.Limits.{Limits}
 use Rattle.records.specs.declared.Refusal.{Refusal}
 use Rattle.records.specs.declared.Refusal.the-variants.{OverLimit, NoRoom}
-use Rattle.copy.specs.Copy.{roomOf, noRoom}
+use Rattle.copy.specs.Copy.{roomOf}
 use Rattle.segments.specs.Refuses.{prefixOver}
 use Rattle.segments.specs.Insert.{Entry, found, entered, refused, insertedOf}
-use Rattle.insert.specs.declared.Inserted.{Inserted}
-use Rattle.insert.specs.declared.Inserted.the-variants as lay
 use Rattle.manifest_write.specs.Bytes.{manifestBytes}
 use Rattle.manifest_write.specs.Answer.{putOf, Outcome as Put}
 use Rattle.manifest_write.specs.declared.Written.{Written}
@@ -46,20 +44,8 @@ enteredTo out (found i) = record { answer = Found i; out = out }
 enteredTo out (entered i n) = wrote i (putOf (manifestBytes n) out)
 enteredTo out (refused r) = refusedTo out r
 
--- the same of what came of insertion into the tables l, where the manifest with the prefix fills f
-abbrev pub laidTo : Limits → Fill → Fill → List ℕ → Lent → Inserted → Outcome
-laidTo lim room f out l (lay.Found i) = record { answer = Found i; out = out }
-laidTo lim room f out l (lay.Entered i row) =
-    pick (noRoom lim room f) (refusedTo out NoRoom)
-    (wrote i (putOf (manifestBytes (manifestIn l row)) out))
-laidTo lim room f out l (lay.Refused r) = refusedTo out r
-
 unfoldable pub insertedIn : Limits → Fill → List ℕ → List ℕ → Encoded → Outcome
 insertedIn lim room p out x = on (refusedTo out) (λ m. enteredTo out (insertedOf lim room m p)) x
-
--- the working tables w and those of the result o, in places, have room for what a manifest may fill
-unfoldable pub bothFit : Fill → Fill → Fill → Bool
-bothFit most w o = fits most w && fits most o
 
 -- the order of refusals: 2, the working tables w for the manifest and o for the result, 18, 19, 1, then 3 and 4
 unfoldable pub insertTo : Limits → List ℕ → List ℕ → Fill → Lent → Lent → List ℕ → Outcome

@@ -4,4 +4,5 @@ pub mod Read
 pub mod Lookup
 pub mod Select
 pub mod Insert
+pub mod Steps
 pub mod Least

@@ -31,7 +31,8 @@ ghost use Rattle.manifest_write.specs.Bytes.{manifestBytes};
 ghost use Rattle.manifest_write.specs.Answer.{putOf};
 ghost use Rattle.manifest_rows.specs.Stored.{lent};
 ghost use Rattle.encoded.specs.InTables.{rowsIn};
-ghost use Rattle.encoded.specs.Insert.{wrote, laidTo, insertedIn, bothFit, insertTo};
+ghost use Rattle.encoded.specs.Insert.{wrote, insertedIn, insertTo};
+ghost use Rattle.encoded.specs.Steps.{laidTo, bothFit};
 
 // Whether there is no room for a manifest that keeps L1 with an empty segment more, of a prefix of `len` bytes.
 fn lacks_room(

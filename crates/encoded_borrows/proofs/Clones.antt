@@ -47,9 +47,10 @@ use Rattle.encoded.specs.Encoded.{refused as unread, encodedOf, longOf}
 use Rattle.encoded.specs.InTables.{rowsIn}
 use Rattle.encoded.specs.Read.{refusedWith}
 use Rattle.encoded.specs.declared.Rows.the-variants.{Are}
-use Rattle.encoded.specs.Insert.{bothFit}
+use Rattle.encoded.specs.Steps.{bothFit}
 use Rattle.encoded.proofs.Inserts.{full-too, both-fit, unless-both}
-use Rattle.encoded_borrows.specs.Clone.{freshPut, laidPut, clonedWith, clonedPut, clonedOn, pathOver, cloneTo}
+use Rattle.encoded_borrows.specs.Steps.{laidPut}
+use Rattle.encoded_borrows.specs.Clone.{freshPut, clonedWith, clonedPut, clonedOn, pathOver, cloneTo}
 use Rattle.encoded_borrows.proofs.Lengths.{clone-long}
 
 -- ---- how long the encoded form is, by a count of it

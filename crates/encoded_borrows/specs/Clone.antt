@@ -8,14 +8,12 @@ use Rattle.keys.specs.Pick.{pick}
 use Rattle.ids.specs.declared.Uuid.{Uuid}
 use Rattle.records.specs.Model.{Manifest}
 use Rattle.records.specs.Fill.{fits, manifestFill}
-use Rattle.records.specs.Decode.{Lent, manifestIn}
+use Rattle.records.specs.Decode.{Lent}
 use Rattle.records.specs.declared.Fill.{Fill}
 use Rattle.records.specs.declared.Limits.{Limits}
 use Rattle.records.specs.declared.Refusal.the-variants.{OverLimit, NoRoom, NoFinal, TooFewFresh}
 use Rattle.copy.specs.Copy.{roomOf, noRoom}
 use Rattle.borrows.specs.Clone.{clonedOf, refuses15, refuses16}
-use Rattle.borrows.specs.declared.ClonedAs.{ClonedAs}
-use Rattle.borrows.specs.declared.ClonedAs.the-variants as lay
 use Rattle.manifest_write.specs.Bytes.{manifestBytes}
 use Rattle.manifest_write.specs.Answer.{Outcome, putOf}
 use Rattle.encoded.specs.Encoded.{Encoded, on, encodedOf, longOf, shortOf}
@@ -27,13 +25,6 @@ freshPut few bs out =
     pick (ltb (length out) (length bs)) (refusedWith out NoRoom)
     (pick few (refusedWith out TooFewFresh)
     (putOf bs out))
-
--- what came of laying the clone in the tables l, written, where the clone fills f
-abbrev pub laidPut : Bool → Limits → Fill → Fill → List ℕ → Lent → ClonedAs → Outcome
-laidPut few lim room f out l (lay.Done row) =
-    pick (noRoom lim room f) (refusedWith out NoRoom)
-    (freshPut few (manifestBytes (manifestIn l row)) out)
-laidPut few lim room f out l (lay.Refused r) = refusedWith out r
 
 -- the clone with some UUIDs, of which there may be too few: 15, then 4 for the records and bytes that it fills, then for its encoded
 -- form, then 16

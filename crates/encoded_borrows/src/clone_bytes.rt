@@ -28,7 +28,8 @@ ghost use Rattle.borrows.specs.Clone.{uuidsOf};
 ghost use Rattle.borrows.specs.Bare.{lentFill};
 ghost use Rattle.manifest_write.specs.Bytes.{manifestBytes};
 ghost use Rattle.manifest_rows.specs.Stored.{lent};
-ghost use Rattle.encoded_borrows.specs.Clone.{freshPut, laidPut, clonedWith};
+ghost use Rattle.encoded_borrows.specs.Clone.{freshPut, clonedWith};
+ghost use Rattle.encoded_borrows.specs.Steps.{laidPut};
 
 // Whether there is no room for the clone of a lawful manifest.
 fn lacks_room(
@@ -80,8 +81,9 @@ fn is_longer(
     out.len() < n
 }
 
-// Writes the clone that was laid, or says why not: its length is judged before the number of fresh UUIDs.
-fn write_clone(
+// Writes a clone that was laid, or says why not: its length is judged before the number of fresh UUIDs, of which there are too `few`.
+// inner
+pub fn write_clone(
     segments: &[u64],
     views: &[u64],
     runs: &[u64],

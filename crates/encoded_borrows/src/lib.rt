@@ -5,6 +5,7 @@ mod clone_bytes;
 use borrows::Owned;
 use borrows::owned_ssts;
 use clone_bytes::clone_with;
+pub use clone_bytes::write_clone;
 use encoded::Rows;
 use encoded::has_results;
 use encoded::has_tables;

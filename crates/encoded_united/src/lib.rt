@@ -1,13 +1,11 @@
 // What comes of sources that were read: united into the tables of the result and written, or why not. A refused call leaves the lent output
 // as it was.
 use encoded::least;
+use encoded_borrows::write_clone;
 use manifest_write::Written;
-use manifest_write::add_manifest;
-use manifest_write::write_judged;
 use records::Fill;
 use records::Limits;
 use records::ManifestRow;
-use records::Refusal;
 use tables::put_words;
 use unite::United;
 use unite_all::union_judged;
@@ -60,34 +58,6 @@ fn lend_fresh(fresh: &[u64], lent_fresh: &mut [u64])
     put_words(&fresh[0..n], lent_fresh, 0);
 }
 
-// Whether the encoded form of a manifest is longer than `out`. It is counted, and nothing is written.
-fn is_longer(
-    segments: &[u64],
-    views: &[u64],
-    runs: &[u64],
-    borrows: &[u64],
-    ids: &[u64],
-    pool: &[u8],
-    m: ManifestRow,
-    out: &[u8],
-) -> bool
-    ensures { λ r. ⌜ r ≡ ltb (length (now (out .entry))) (length (manifestBytes (manifestIn (lent (now (segments .entry)) (now (views .entry)) (now (runs .entry)) (now (borrows .entry)) (now (ids .entry)) (now (pool .entry))) m))) ⌝ }
-{
-    let mut nowhere = [0u8; 1];
-    let n = add_manifest(
-        m,
-        segments,
-        views,
-        runs,
-        borrows,
-        ids,
-        pool,
-        &mut nowhere,
-        0,
-    );
-    out.len() < n
-}
-
 // Writes the union that was laid, or says why not: its length is judged before the number of fresh UUIDs, of which `given` words were lent.
 fn write_union(
     segments: &[u64],
@@ -103,13 +73,8 @@ fn write_union(
     ensures { λ r. ⌜ record { answer = r; out = now (out .exit) } ≡ freshPut (ltb (given / 2) (m .«external_dbs» .count)) (manifestBytes (manifestIn (lent (now (segments .entry)) (now (views .entry)) (now (runs .entry)) (now (borrows .entry)) (now (ids .entry)) (now (pool .entry))) m)) (now (out .entry)) ⌝ }
 {
     let w = m.external_dbs;
-    if given / 2 < w.count {
-        if is_longer(segments, views, runs, borrows, ids, pool, m, out) {
-            return Written::Refused(Refusal::NoRoom);
-        }
-        return Written::Refused(Refusal::TooFewFresh);
-    }
-    write_judged(segments, views, runs, borrows, ids, pool, m, out)
+    let few = given / 2 < w.count;
+    write_clone(segments, views, runs, borrows, ids, pool, m, few, out)
 }
 
 // Unites sources that were read, with lists of its own, into tables that leave just the room there is, and writes the union.

@@ -1,43 +1,15 @@
-use mathlib.Core.Path.{_∙_}
-use borrow.Author.Tests.{lt-ltb, le-ltb}
-use Rattle.encoded_borrows.proofs.Clones.{few-long, few-fits, enough}
 use borrow.Author.Needs.{needs}
 use Rattle.encoded_united.proofs.write_union.Statement.{statement}
 use Rattle.encoded_united.proofs.write_union.Tie as tie
 
-is-longer-requires : tie.Need-is-longer-requires
-is-longer-requires c κs = search needs
+write-clone-requires : tie.Need-write-clone-requires
+write-clone-requires c κs = search needs
 
 same-length : tie.Need-same-length
 same-length c = search needs
 
 returns : tie.Need-returns
-returns c = rw (lt-ltb _ _ (c .before .before .before .if1 .taken)) (few-long _ _ _ (c .before .is-longer .ensures) (c .if2 .taken))
-
-same-length-2 : tie.Need-same-length-2
-same-length-2 c = search needs
-
-returns-2 : tie.Need-returns-2
-returns-2 c = rw (lt-ltb _ _ (c .before .before .before .if1 .taken)) (few-fits _ _ _ (c .before .is-longer .ensures) (c .if2 .left))
-
-write-judged-requires : tie.Need-write-judged-requires
-write-judged-requires c κs = search needs
-
-same-length-3 : tie.Need-same-length-3
-same-length-3 c = search needs
-
-returns-3 : tie.Need-returns-3
-returns-3 c = rw (le-ltb _ _ (c .before .before .before .before .if1 .left)) (c .before .before .write-judged .ensures ∙ enough _ _)
+returns c = search needs
 
 pub write-union-spec : {M : Type 1} → statement M
-write-union-spec =
-    tie.close
-    (tie.spec
-    is-longer-requires
-    same-length
-    returns
-    same-length-2
-    returns-2
-    write-judged-requires
-    same-length-3
-    returns-3)
+write-union-spec = tie.close (tie.spec write-clone-requires same-length returns)
