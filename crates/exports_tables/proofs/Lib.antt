@@ -1,2 +1,3 @@
 pub mod Selects
 pub mod Back
+pub mod Codes
