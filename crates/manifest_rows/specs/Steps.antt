@@ -1,4 +1,5 @@
 -- Parts of what is read, for the functions that read them one after the other: what stands before a list, and a manifest's two halves.
+-- No public promise speaks of it.
 use Prim.Native.Nat.{ℕ, _-_, _^_}
 use mathlib.Core.Path.{_≡_}
 use mathlib.Core.Bool.{Bool}
@@ -67,6 +68,7 @@ gotTreeHead (tree-head.Wrong q) = wrong q
 
 -- ---- a manifest's two halves: what was read, and what it makes of the tables
 
+-- a value was read that ends before p, and the step holds of it
 pub record ReadAs {A : Type 0} (Step : A → Type 0) (g : Got A) (p : ℕ) : Type 0 where
   pub value : A
   pub read : g ≡ is value p
@@ -84,16 +86,19 @@ firstAt s at =
     onGroup wrong (groupAt s at 12) λ n p₀. onFlag wrong (flagAt s p₀) λ init p₁. on (treesAt s p₁) λ t p₂.
     is (record { parts = n; initialized = init; trees = t }) p₂
 
+-- the code's first half is that of the bytes, and the tables went from σ to σ′ by its trees
 pub record FirstStep (s : List ℕ) (x : First) (h : FirstHalf) (σ σ′ : Three) : Type 0 where
   pub parts : x .parts ≡ h .parts
   pub initialized : x .initialized ≡ h .initialized
   pub trees : TreesStep s (x .tree) (h .trees) σ σ′
 
+-- what reading the first half answers
 abbrev pub FirstMoves : List ℕ → Got FirstHalf → Three → (ℕ → Cursor → Three) → GotFirst → Type 0
 FirstMoves s g σ after (first.Is x p) = ReadAs (λ h. FirstStep s x h σ (after (x .segments) (x .trees))) g p
 FirstMoves s g σ after (first.Wrong q) = g ≡ wrong q
 
--- "extractor name or none, .., borrows, .."
+-- "extractor name or none, next_wal_sst_id, replay_after_wal_id, last_l0_clock_tick (i64), last_l0_seq, recent_snapshot_min_seq, borrows,
+-- writer epoch, compactor epoch"
 pub record SecondHalf : Type 0 where
   pub extractor : Extractor
   pub numbers : Numbers
@@ -128,6 +133,7 @@ rowOf x name h =
 abbrev pub fillOf : First → Cursor → Fill
 fillOf x d = record { segments = x .segments; views = x .trees .inner; runs = x .trees .outer; borrows = d .outer; ids = d .inner; bytes = 0 }
 
+-- the row and the counts are those of both halves, and the tables went from σ by the borrows
 pub record SecondStep (s : List ℕ) (x : First) (row : ManifestRow) (c : Fill) (h : SecondHalf) (σ : Two) (after : Cursor → Two) : Type 0 where
   pub name : Name
   pub over : nameIn s name ≡ h .extractor
@@ -137,6 +143,7 @@ pub record SecondStep (s : List ℕ) (x : First) (row : ManifestRow) (c : Fill) 
   pub borrows : Steps (BorrowStep s) (h .borrows) σ (after cursor)
   pub counts : c ≡ fillOf x cursor
 
+-- what reading the second half answers
 abbrev pub SecondMoves : List ℕ → First → Got SecondHalf → Two → (Cursor → Two) → GotManifest → Type 0
 SecondMoves s x g σ after (manifest.Is row c p) = ReadAs (λ h. SecondStep s x row c h σ after) g p
 SecondMoves s x g σ after (manifest.Wrong q) = g ≡ wrong q
