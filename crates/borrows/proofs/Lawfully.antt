@@ -16,7 +16,7 @@ use Rattle.records.specs.declared.Limits.{Limits}
 use Rattle.records.specs.declared.ManifestRow.{ManifestRow}
 use Rattle.records.proofs.Columns.{keys-fill, tree-fill, segments-fill, borrows-fill}
 use Rattle.measure.specs.Tests.{allOf}
-use Rattle.measure.specs.Within.{treeViews, allViews, short, within}
+use Rattle.measure.specs.Within.{treeViews, allViews, short, within, idsUsed}
 use Rattle.measure.specs.Placed.{placed}
 use Rattle.measure.specs.Measure.{l1Of}
 use Rattle.measure.proofs.Fits.{under}
@@ -24,7 +24,7 @@ use Rattle.lawful.specs.Law.{l2Of, l3Of, l4Of, l5Of}
 use Rattle.lawful.specs.Judge.{judgedOf}
 use Rattle.lawful.specs.declared.Judged.{Judged}
 use Rattle.lawful.specs.declared.Judged.the-variants.{Lawful, Breaks}
-use Rattle.borrows.specs.Owned.{idsUsed, isBorrowed, unborrowed, ownedOf}
+use Rattle.borrows.specs.Owned.{isBorrowed, unborrowed, ownedOf}
 use Rattle.borrows.proofs.Poolless.{segments-joined}
 
 -- ---- L1 to L5

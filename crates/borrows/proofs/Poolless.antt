@@ -15,8 +15,8 @@ use Rattle.records.specs.Row.{viewAt, runAt, segmentAt, borrowAt}
 use Rattle.records.specs.Decode.{Lent, viewIn, viewsIn, runIn, runsIn, treeIn, segmentIn, segmentsIn, borrowIn, borrowsIn, manifestIn}
 use Rattle.records.specs.declared.TreeRow.{TreeRow}
 use Rattle.records.specs.declared.ManifestRow.{ManifestRow}
-use Rattle.measure.specs.Within.{runViews, treeViews, allViews}
-use Rattle.borrows.specs.Owned.{idsUsed, isBorrowed, unborrowed, ownedOf}
+use Rattle.measure.specs.Within.{runViews, treeViews, allViews, idsUsed}
+use Rattle.borrows.specs.Owned.{isBorrowed, unborrowed, ownedOf}
 
 -- ---- the ids of views
 

@@ -6,13 +6,8 @@ use Rattle.keys.specs.Pick.{pick}
 use Rattle.ids.specs.declared.SstId.{SstId}
 use Rattle.ids.specs.Names.{namesOf}
 use Rattle.records.specs.Model.{View, Borrow, Manifest}
-use Rattle.measure.specs.Within.{allViews}
+use Rattle.measure.specs.Within.{allViews, idsUsed}
 use Rattle.segments.specs.Prefixes.{leading}
-
--- "ids of all views, in record order, repeats kept"
-abbrev pub idsUsed : List View → List SstId
-idsUsed [] = []
-idsUsed (v ∷ vs) = v .sst ∷ idsUsed vs
 
 -- "the search stops at the first list that names it": which borrow that is; the number of all where none does
 unfoldable pub firstNaming : List Borrow → SstId → ℕ

@@ -23,7 +23,9 @@ use Rattle.records.proofs.Columns.{segments-fill}
 use Rattle.measure.proofs.Fits.{says-fits}
 use Rattle.copy.specs.Copy.{noRoom}
 use Rattle.merge.specs.Merge.{fromWriter, refuses6, place6, fromCompactor, refuses7, place7}
-use Rattle.merge.specs.Answer.{LentList, Outcome as Given, listRoom, listOver, refused, listGiven, writerGiven, compactorGiven}
+use Rattle.merge.specs.Answer.{LentList, Outcome as Given, listRoom, listOver, refused, listGiven, writerGiven, compactorGiven, givenBy}
+use Rattle.merge.specs.declared.Side.{Side}
+use Rattle.merge.specs.declared.Side.the-variants.{Writer, Compactor}
 use Rattle.merge.specs.declared.Merged.{Merged}
 use Rattle.merge.specs.declared.Merged.the-variants.{Done, Refused}
 use Rattle.merge.proofs.Standing.{standing}
@@ -32,18 +34,6 @@ use Rattle.manifest_write.specs.Answer.{Outcome, putOf}
 use Rattle.encoded.specs.Least.{lesser}
 use Rattle.encoded.specs.Read.{refusedWith}
 use Rattle.encoded_merge.specs.Merge.{listTo, writerTo, compactorTo, mergedTo}
-use Rattle.encoded_merge.specs.Steps.{givenBy}
-use Rattle.encoded_merge.specs.declared.Side.{Side}
-use Rattle.encoded_merge.specs.declared.Side.the-variants.{Writer, Compactor}
-
-module _ (side : Side) (lim : Limits) (ws cs : List Segment) (o : LentList) where
-  pub given-writer : side ≡ Writer → writerGiven lim ws cs o ≡ givenBy side lim ws cs o
-  unfolding givenBy
-  given-writer h = rw h
-
-  pub given-compactor : side ≡ Compactor → compactorGiven lim ws cs o ≡ givenBy side lim ws cs o
-  unfolding givenBy
-  given-compactor h = rw h
 
 -- what comes of an answer of the merge, where the result tables hold o
 abbrev told : List ℕ → Merged → LentList → Outcome

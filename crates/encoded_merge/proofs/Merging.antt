@@ -31,7 +31,7 @@ use Rattle.encoded.specs.Read.{refusedWith}
 use Rattle.standing.proofs.Reading.{readInto, read-is, Accepted, accepted-is, accepted-judged, read-refused, read-accepted, read-roomy, accepted-stays}
 use Rattle.encoded_merge.specs.Merge.{mergedTo, shortBoth, bothTo, mergeTo}
 use Rattle.encoded_merge.specs.Steps.{readyOf, joinedOf, BothRead}
-use Rattle.encoded_merge.specs.declared.Side.{Side}
+use Rattle.merge.specs.declared.Side.{Side}
 use Rattle.encoded_merge.specs.declared.Ready.{Ready}
 use Rattle.encoded_merge.specs.declared.Ready.the-variants.{Yes, No}
 use Rattle.encoded_merge.specs.declared.Both.{Both}

@@ -13,12 +13,12 @@ use Rattle.records.specs.declared.Limits.{Limits}
 use Rattle.records.specs.declared.Refusal.the-variants.{OverLimit, NoRoom, CompactorOnly, KeptNest}
 use Rattle.copy.specs.Copy.{roomOf, noRoom}
 use Rattle.merge.specs.Merge.{fromWriter, refuses6, place6, fromCompactor, refuses7, place7}
+use Rattle.merge.specs.declared.Side.{Side}
+use Rattle.merge.specs.declared.Side.the-variants.{Writer, Compactor}
 use Rattle.manifest_write.specs.Bytes.{segmentsBytes}
 use Rattle.manifest_write.specs.Answer.{Outcome, putOf}
 use Rattle.encoded.specs.Encoded.{Encoded, on, encodedOf, longOf, shortOf}
 use Rattle.encoded.specs.Read.{refusedWith}
-use Rattle.encoded_merge.specs.declared.Side.{Side}
-use Rattle.encoded_merge.specs.declared.Side.the-variants.{Writer, Compactor}
 
 -- "give a segment list from their segments alone; refusal 4 counts just that list": first by the records and bytes that it fills, then
 -- by its encoded form

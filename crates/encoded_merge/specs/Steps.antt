@@ -6,7 +6,6 @@ use mathlib.Core.List.{List}
 use lib.Dec.{ltb}
 use lib.ListN.{length}
 use Rattle.keys.specs.Pick.{pick}
-use Rattle.records.specs.Model.{Segment}
 use Rattle.records.specs.Fill.{plus, fits}
 use Rattle.records.specs.Decode.{Lent, manifestIn}
 use Rattle.records.specs.declared.Fill.{Fill}
@@ -16,22 +15,15 @@ use Rattle.lawful.specs.Judge.{judgedOf}
 use Rattle.lawful.specs.declared.Judged.the-variants.{Lawful}
 use Rattle.copy.specs.declared.Copied.{Copied}
 use Rattle.copy.specs.declared.Copied.the-variants.{Done, Refused as Unread}
-use Rattle.merge.specs.Answer.{LentList, Outcome, writerGiven, compactorGiven}
+use Rattle.merge.specs.declared.Side.{Side}
 use Rattle.manifest_read.specs.Answer.{workRoom}
 use Rattle.encoded.specs.Encoded.{longOf}
 use Rattle.encoded.specs.Read.{refusedWith}
 use Rattle.encoded_merge.specs.Merge.{mergedTo, mergeTo}
-use Rattle.encoded_merge.specs.declared.Side.{Side}
-use Rattle.encoded_merge.specs.declared.Side.the-variants.{Writer, Compactor}
 use Rattle.encoded_merge.specs.declared.Ready.{Ready}
 use Rattle.encoded_merge.specs.declared.Ready.the-variants.{Yes, No}
 use Rattle.encoded_merge.specs.declared.Both.{Both}
 use Rattle.encoded_merge.specs.declared.Both.the-variants.{Are, Refused}
-
--- the merged list in the result tables
-unfoldable pub givenBy : Side → Limits → List Segment → List Segment → LentList → Outcome
-givenBy Writer lim ws cs o = writerGiven lim ws cs o
-givenBy Compactor lim ws cs o = compactorGiven lim ws cs o
 
 -- the refusals that come before any reading, but for those of the tables that each source is read into: `room` is what the tables that hold
 -- both have, p the bytes of the result's pool

@@ -6,6 +6,7 @@ mod list_merged;
 use both_read::read_both;
 use list_merged::merge_within;
 use manifest_write::Written;
+use merge::Side;
 use records::Fill;
 use records::Limits;
 use records::ManifestRow;
@@ -14,12 +15,6 @@ ghost use mathlib.Core.Path.{_≡_};
 ghost use mathlib.Core.List.{[]};
 ghost use Rattle.manifest_rows.specs.Stored.{lent};
 ghost use Rattle.encoded_merge.specs.Merge.{mergeTo};
-
-// Whose segments the merge is from.
-pub enum Side {
-    Writer,
-    Compactor,
-}
 
 // Whether two manifests may be read.
 enum Ready {

@@ -1,11 +1,10 @@
 // The merged list of segments, as a manifest in the tables of the result.
-use crate::Side;
 use encoded::least;
 use manifest_write::Written;
 use manifest_write::write_segments;
 use merge::Merged;
-use merge::merge_segments_from_compactor_judged;
-use merge::merge_segments_from_writer_judged;
+use merge::Side;
+use merge::merge_judged;
 use records::Fill;
 use records::Limits;
 use records::ManifestRow;
@@ -18,63 +17,8 @@ ghost use Rattle.lawful.specs.declared.Judged.the-variants.{Lawful};
 ghost use Rattle.merge.specs.Answer.{listRoom};
 ghost use Rattle.manifest_rows.specs.Stored.{lent};
 ghost use Rattle.encoded_merge.specs.Merge.{mergedTo};
-ghost use Rattle.encoded_merge.specs.Steps.{givenBy};
 
-// Merges the segments of two lawful manifests into the result tables.
-fn merge_list(
-    side: Side,
-    lim: Limits,
-    segments: &[u64],
-    views: &[u64],
-    runs: &[u64],
-    borrows: &[u64],
-    ids: &[u64],
-    pool: &[u8],
-    writer: ManifestRow,
-    compactor: ManifestRow,
-    out_segments: &mut [u64],
-    out_views: &mut [u64],
-    out_runs: &mut [u64],
-    out_pool: &mut [u8],
-) -> Merged
-    requires { ⌜ (judgedOf lim (lent (now segments) (now views) (now runs) (now borrows) (now ids) (now pool)) writer ≡ Lawful) × (judgedOf lim (lent (now segments) (now views) (now runs) (now borrows) (now ids) (now pool)) compactor ≡ Lawful) ⌝ }
-    ensures { λ r. ⌜ record { answer = r; out = (record { segments = now («out_segments» .exit); views = now («out_views» .exit); runs = now («out_runs» .exit); pool = now («out_pool» .exit) }) } ≡ givenBy side lim (manifestIn (lent (now (segments .entry)) (now (views .entry)) (now (runs .entry)) (now (borrows .entry)) (now (ids .entry)) (now (pool .entry))) writer .segments) (manifestIn (lent (now (segments .entry)) (now (views .entry)) (now (runs .entry)) (now (borrows .entry)) (now (ids .entry)) (now (pool .entry))) compactor .segments) (record { segments = now («out_segments» .entry); views = now («out_views» .entry); runs = now («out_runs» .entry); pool = now («out_pool» .entry) }) ⌝ }
-{
-    match side {
-        Side::Writer => merge_segments_from_writer_judged(
-            lim,
-            segments,
-            views,
-            runs,
-            borrows,
-            ids,
-            pool,
-            writer,
-            compactor,
-            out_segments,
-            out_views,
-            out_runs,
-            out_pool,
-        ),
-        Side::Compactor => merge_segments_from_compactor_judged(
-            lim,
-            segments,
-            views,
-            runs,
-            borrows,
-            ids,
-            pool,
-            writer,
-            compactor,
-            out_segments,
-            out_views,
-            out_runs,
-            out_pool,
-        ),
-    }
-}
-
-// Merges, and writes the list.
+// Merges two lawful manifests into the result tables, and writes the list.
 fn merge_into(
     side: Side,
     lim: Limits,
@@ -95,7 +39,7 @@ fn merge_into(
     requires { ⌜ (judgedOf lim (lent (now segments) (now views) (now runs) (now borrows) (now ids) (now pool)) writer ≡ Lawful) × (judgedOf lim (lent (now segments) (now views) (now runs) (now borrows) (now ids) (now pool)) compactor ≡ Lawful) ⌝ }
     ensures { λ r. ⌜ record { answer = r; out = now (out .exit) } ≡ mergedTo side lim (listRoom (record { segments = now («out_segments» .entry); views = now («out_views» .entry); runs = now («out_runs» .entry); pool = now («out_pool» .entry) })) (now (out .entry)) (manifestIn (lent (now (segments .entry)) (now (views .entry)) (now (runs .entry)) (now (borrows .entry)) (now (ids .entry)) (now (pool .entry))) writer .segments) (manifestIn (lent (now (segments .entry)) (now (views .entry)) (now (runs .entry)) (now (borrows .entry)) (now (ids .entry)) (now (pool .entry))) compactor .segments) ⌝ }
 {
-    match merge_list(
+    match merge_judged(
         side,
         lim,
         segments,

@@ -195,6 +195,7 @@ fn has_tables(
 }
 
 // Lays the arguments at the front and reads a manifest behind them, where there is room for any within L1.
+// inner
 pub fn read_behind(
     lim: Limits,
     s: &[u8],

@@ -115,6 +115,7 @@ fn count_own(rows: usize, segments: usize) -> usize
 }
 
 // Projects by the own ranges that count into the part of the result tables that the room and L1 leave. They have room for any manifest within L1.
+// inner
 pub fn project_within(
     lim: Limits,
     in_segments: &[u64],

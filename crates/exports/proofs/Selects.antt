@@ -8,7 +8,8 @@ use Rattle.records.specs.Limits.{limits01}
 use Rattle.records.specs.declared.Refusal.the-variants.{OverLimit}
 use Rattle.segments.specs.declared.Selected.the-variants.{Refused}
 use Rattle.encoded.specs.Select.{selectOf}
-use Rattle.exports.specs.Arguments.{rangeArg, oddOf, selectBy}
+use Rattle.exports_forms.specs.Arguments.{rangeArg, oddOf}
+use Rattle.exports.specs.Calls.{selectBy}
 
 module _ (r s args : List ℕ) (w : Lent) where
   pub select-odd : oddOf r ≡ true → Refused OverLimit ≡ selectBy r s args w

@@ -1,26 +1,31 @@
 // The face for programs in other languages: encoded manifests, plain bytes and numbers in, numbers and encoded bytes out. All memory
 // is lent by the caller; what the working tables hold after a call is of no use.
-mod calls_made;
+mod answers;
 
-use calls_made::config_arg;
-use calls_made::global_odd;
-use calls_made::inserted_answer;
-pub use calls_made::is_odd;
-pub use calls_made::looked_answer;
-use calls_made::owned_answer;
-use calls_made::projected_answer;
-pub use calls_made::range_arg;
-pub use calls_made::refused_answer;
-pub use calls_made::room_fill;
-pub use calls_made::selected_answer;
-use calls_made::uuid_arg;
-pub use calls_made::written_answer;
-use encoded_merge::Side;
+use answers::inserted_answer;
+use answers::projected_answer;
+use copy::Copied;
+use encoded_project::call_over;
+use encoded_project::lacks_list;
+use encoded_project::project_within;
+use encoded_project::read_behind;
+use exports_forms::Answer;
+use exports_forms::config_arg;
+use exports_forms::global_odd;
+use exports_forms::is_odd;
+use exports_forms::looked_answer;
+use exports_forms::owned_answer;
+use exports_forms::range_arg;
+use exports_forms::refused_answer;
+use exports_forms::room_fill;
+use exports_forms::selected_answer;
+use exports_forms::uuid_arg;
+use exports_forms::written_answer;
+use merge::Side;
 use records::Refusal;
 use records::limits_01;
 ghost use mathlib.Core.Path.{_≡_};
 ghost use mathlib.Core.List.{[]};
-ghost use lib.ListN.{length};
 ghost use Rattle.records.specs.Limits.{limits01};
 ghost use Rattle.segments.specs.Lookup.{looked};
 ghost use Rattle.segments.specs.Select.{selected};
@@ -30,21 +35,12 @@ ghost use Rattle.encoded.specs.Read.{readTo};
 ghost use Rattle.encoded.specs.Lookup.{lookupOf};
 ghost use Rattle.encoded.specs.Insert.{insertTo};
 ghost use Rattle.encoded_merge.specs.Merge.{mergeTo};
-ghost use Rattle.encoded_merge.specs.declared.Side.the-variants.{Writer, Compactor};
+ghost use Rattle.merge.specs.declared.Side.the-variants.{Writer, Compactor};
 ghost use Rattle.encoded_borrows.specs.Owned.{ownedTo};
 ghost use Rattle.encoded_borrows.specs.Clone.{cloneTo};
-ghost use Rattle.exports.specs.Replies.{told, wroteReply, insertReply, projectReply};
-ghost use Rattle.exports.specs.Arguments.{roomFill, selectBy, projectBy};
-ghost use Rattle.exports.specs.Borrows.{uuidArg, ownedReply};
-
-// What a call answers: 0 and the operation's numbers, or a refusal's number and place; the rest 0.
-#[repr(C)]
-pub struct Answer {
-    pub number: usize,
-    pub first: usize,
-    pub second: usize,
-    pub third: usize,
-}
+ghost use Rattle.exports_forms.specs.Arguments.{roomFill, uuidArg};
+ghost use Rattle.exports_forms.specs.Replies.{told, wroteReply, ownedReply};
+ghost use Rattle.exports.specs.Calls.{selectBy, insertReply, projectBy, projectReply};
 
 // ---- the entry points
 
@@ -351,14 +347,20 @@ pub extern "C" fn manifest_project(
     }
     let lim = limits_01();
     let c = config_arg(asked, global);
+    let g = c.global_range;
+    if call_over(lim.key, s.len(), args.len(), g) {
+        return refused_answer(Refusal::OverLimit);
+    }
+    if lacks_list(lim, used.len(), pool.len()) {
+        return refused_answer(Refusal::NoRoom);
+    }
     let most = room_fill(room);
-    let x = encoded_project::project(
+    match read_behind(
         lim,
         s,
         args,
         c,
         own,
-        most,
         segments,
         views,
         runs,
@@ -370,9 +372,31 @@ pub extern "C" fn manifest_project(
         in_borrows,
         in_ids,
         in_pool,
-        used,
-        pool,
-        out,
-    );
-    projected_answer(x)
+    ) {
+        Copied::Done(m) => {
+            let x = project_within(
+                lim,
+                in_segments,
+                in_views,
+                in_runs,
+                in_borrows,
+                in_ids,
+                in_pool,
+                m,
+                c,
+                own,
+                used,
+                most,
+                segments,
+                views,
+                runs,
+                borrows,
+                ids,
+                pool,
+                out,
+            );
+            projected_answer(x)
+        }
+        Copied::Refused(x) => refused_answer(x),
+    }
 }

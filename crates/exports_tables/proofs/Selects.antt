@@ -9,7 +9,7 @@ use Rattle.records.specs.declared.ManifestRow.{ManifestRow}
 use Rattle.records.specs.declared.Refusal.the-variants.{OverLimit}
 use Rattle.segments.specs.Select.{selectedOf}
 use Rattle.segments.specs.declared.Selected.the-variants.{Refused}
-use Rattle.exports.specs.Arguments.{rangeArg, oddOf}
+use Rattle.exports_forms.specs.Arguments.{rangeArg, oddOf}
 use Rattle.exports_tables.specs.Calls.{selectIn}
 
 module _ (r args : List ℕ) (l : Lent) (m : ManifestRow) where

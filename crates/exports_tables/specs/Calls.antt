@@ -19,9 +19,9 @@ use Rattle.segments.specs.declared.Selected.the-variants.{Refused}
 use Rattle.insert.specs.Insert.{Outcome as Inserts, inserted}
 use Rattle.insert.specs.declared.Inserted.{Inserted}
 use Rattle.insert.specs.declared.Inserted.the-variants as entry
-use Rattle.exports.specs.Replies.{told}
-use Rattle.exports.specs.Arguments.{rangeArg, oddOf}
-use Rattle.exports.specs.declared.Answer.{Answer}
+use Rattle.exports_forms.specs.Replies.{told}
+use Rattle.exports_forms.specs.Arguments.{rangeArg, oddOf}
+use Rattle.exports_forms.specs.declared.Answer.{Answer}
 use Rattle.exports_tables.specs.Head.{treeRow, restWords}
 use Rattle.exports_tables.specs.declared.Laid.{Laid}
 

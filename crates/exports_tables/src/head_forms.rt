@@ -1,8 +1,8 @@
 // A manifest's own value as words, and the numbers that the calls answer.
 use crate::Laid;
 use copy::Copied;
-use exports::Answer;
-use exports::refused_answer;
+use exports_forms::Answer;
+use exports_forms::refused_answer;
 use insert::Inserted;
 use records::ManifestRow;
 use records::Name;

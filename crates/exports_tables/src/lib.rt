@@ -2,13 +2,13 @@
 // words and its clock tick; specs/Head.antt says which word is what. Each call judges the manifest anew.
 mod head_forms;
 
-use exports::Answer;
-use exports::is_odd;
-use exports::looked_answer;
-use exports::range_arg;
-use exports::refused_answer;
-use exports::selected_answer;
-use exports::written_answer;
+use exports_forms::Answer;
+use exports_forms::is_odd;
+use exports_forms::looked_answer;
+use exports_forms::range_arg;
+use exports_forms::refused_answer;
+use exports_forms::selected_answer;
+use exports_forms::written_answer;
 use head_forms::copied_answer;
 use head_forms::head_at;
 use head_forms::inserted_answer;
@@ -20,7 +20,7 @@ ghost use Rattle.segments.specs.Lookup.{looked, lookedOf};
 ghost use Rattle.segments.specs.Select.{selected};
 ghost use Rattle.manifest_write.specs.Answer.{writeOf};
 ghost use Rattle.manifest_rows.specs.Stored.{lent};
-ghost use Rattle.exports.specs.Replies.{told, wroteReply};
+ghost use Rattle.exports_forms.specs.Replies.{told, wroteReply};
 ghost use Rattle.manifest_read.specs.Answer.{readOf};
 ghost use Rattle.insert.specs.Insert.{insertOf};
 ghost use Rattle.exports_tables.specs.Head.{headAt};

@@ -10,8 +10,8 @@ use Rattle.manifest_write.specs.Answer.{written}
 use Rattle.manifest_write.specs.declared.Written.{Written}
 use Rattle.encoded_union.specs.Union.{unionTo}
 use Rattle.encoded_united.specs.Lists.{ownShort}
-use Rattle.exports.specs.Replies.{told, wroteReply}
-use Rattle.exports.specs.declared.Answer.{Answer}
+use Rattle.exports_forms.specs.Replies.{told, wroteReply}
+use Rattle.exports_forms.specs.declared.Answer.{Answer}
 
 module _ (s ends paths pathEnds checkpoints fresh out done : List ℕ) (most : Fill) (w t o : Lent) (given sets : ℕ) where
   pub union-replies : {lim : Limits} {room : Fill} {x : Written} {a : Answer} →

@@ -1,8 +1,8 @@
 // The entry point of union. It stands by itself, since a call with twenty-one slices costs the prover half as much as the nine others together;
 // programs link both archives.
-use exports::Answer;
-use exports::room_fill;
-use exports::written_answer;
+use exports_forms::Answer;
+use exports_forms::room_fill;
+use exports_forms::written_answer;
 use records::limits_01;
 ghost use mathlib.Core.Path.{_≡_};
 ghost use mathlib.Core.List.{[]};
@@ -11,8 +11,8 @@ ghost use Rattle.records.specs.Limits.{limits01};
 ghost use Rattle.manifest_rows.specs.Stored.{lent};
 ghost use Rattle.encoded_union.specs.Union.{unionTo};
 ghost use Rattle.encoded_united.specs.Lists.{ownShort};
-ghost use Rattle.exports.specs.Replies.{wroteReply};
-ghost use Rattle.exports.specs.Arguments.{roomFill};
+ghost use Rattle.exports_forms.specs.Replies.{wroteReply};
+ghost use Rattle.exports_forms.specs.Arguments.{roomFill};
 
 // The union of up to eight manifests: 0, and how many bytes of `out` it fills. Source k is the k-th part of `s`, its path the k-th part of
 // `paths` and its checkpoint the k-th pair of `checkpoints`; `ends` and `path_ends` say where each part ends. A fresh UUID for each borrow of

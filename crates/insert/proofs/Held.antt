@@ -7,7 +7,7 @@ use native.Mathlib.Omega.{arith}
 use lib.ListN.{length}
 use borrow.Author.Tests.{lt-ltb, le-ltb}
 use Rattle.keys.specs.Says.{Says, holds, fails}
-use Rattle.keys.specs.Key.{orderOf, lessOf}
+use Rattle.keys.specs.Key.{orderOf, lessOf, isEqual}
 use Rattle.keys.specs.declared.Order.{Order}
 use Rattle.keys.specs.declared.Order.the-variants.{Less, Equal, Greater}
 use Rattle.keys.proofs.Says.{false-says, says-lt}
@@ -18,7 +18,7 @@ use Rattle.measure.specs.Tests.{allOf, chain, pairs}
 use Rattle.lawful.specs.Steps.{prefixAt}
 use Rattle.lawful.proofs.Pairs.{chain-pairs}
 use Rattle.segments.specs.Prefixes.{prefixOf, leading, prefixesIn}
-use Rattle.segments.specs.Lookup.{isEqual, sameOf, indexOf}
+use Rattle.segments.specs.Lookup.{sameOf, indexOf}
 use Rattle.segments.specs.Place.{placeOf}
 use Rattle.segments.specs.Insert.{holdsOf}
 use Rattle.segments.proofs.Answers.{in-length}

@@ -19,6 +19,11 @@ isLess Less = true
 isLess Equal = false
 isLess Greater = false
 
+abbrev pub isEqual : Order → Bool
+isEqual Less = false
+isEqual Equal = true
+isEqual Greater = false
+
 -- whether a is below b
 abbrev pub lessOf : List ℕ → List ℕ → Bool
 lessOf a b = isLess (orderOf a b)

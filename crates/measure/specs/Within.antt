@@ -1,9 +1,10 @@
 -- L1's numbers, over a manifest of the model.
 use Prim.Native.Nat.{ℕ}
 use mathlib.Core.Bool.{Bool, not, _&&_}
-use mathlib.Core.List.{List, _++_}
+use mathlib.Core.List.{List, [], _∷_, _++_}
 use lib.Dec.{leb}
 use lib.ListN.{length}
+use Rattle.ids.specs.declared.SstId.{SstId}
 use Rattle.tables.specs.Layout.{joined}
 use Rattle.records.specs.Model.{View, Run, Tree, Manifest, trees}
 use Rattle.records.specs.Fill.{fits, manifestFill, viewKeys, nameKeys}
@@ -27,6 +28,11 @@ allViews m = joined treeViews (trees m)
 
 unfoldable pub allRuns : Manifest → List Run
 allRuns m = joined treeRuns (trees m)
+
+-- the SST ids of some views: "ids of all views, in record order, repeats kept"
+abbrev pub idsUsed : List View → List SstId
+idsUsed [] = []
+idsUsed (v ∷ vs) = v .sst ∷ idsUsed vs
 
 -- a byte string of at most so many bytes
 abbrev pub short : ℕ → List ℕ → Bool

@@ -27,9 +27,13 @@ use Rattle.lawful.specs.declared.Judged.the-variants.{Lawful, Breaks}
 use Rattle.copy.specs.Copy.{noRoom}
 use Rattle.segments.specs.Prefixes.{prefixes}
 use Rattle.merge.specs.Merge.{fromWriter, refuses6, place6, fromCompactor, refuses7, place7}
-use Rattle.merge.specs.Answer.{LentList, Outcome, listRoom, listOver, refused, listGiven, writerGiven, compactorGiven, judgedBoth}
-use Rattle.merge.specs.Steps.{listMeasured}
-use Rattle.merge.specs.Finds.{firstOnly, firstNest}
+use Rattle.merge.specs.Answer.{LentList, Outcome, listRoom, listOver, refused, listGiven, writerGiven, compactorGiven, givenBy, judgedBoth}
+use Rattle.merge.specs.Steps.{mergedFrom, listMeasured}
+use Rattle.merge.specs.Finds.{faultOf, firstOnly, firstNest}
+use Rattle.merge.specs.declared.Side.{Side}
+use Rattle.merge.specs.declared.Side.the-variants.{Writer, Compactor}
+use Rattle.merge.specs.declared.Fault.{Fault}
+use Rattle.merge.specs.declared.Fault.the-variants.{Nothing, Is}
 use Rattle.merge.specs.declared.Merged.the-variants.{Done}
 use Rattle.merge.specs.declared.Found.{Found}
 use Rattle.merge.specs.declared.Found.the-variants.{Nowhere, At}
@@ -78,46 +82,75 @@ module _ (lim : Limits) (ss : List Segment) (o : LentList) (u : Measured) (e : u
           let n : to .segments ≡ length ss = ap (λ (x : Fill). x .segments) p ∙ rw (segments-fill ss) (omega arith) in
           rw (within .0, room-is ∙ t, n, hs, hq, hv, hb)
 
--- ---- refusals 6 and 7: x is refused at n where b says so
-module _ (x : ℕ → Refusal) (b : Bool) (n : ℕ) (given : Outcome) (o : LentList) (f : Found) (e : f ≡ pick b (At (0 + n)) Nowhere) where
-  found-at : (k : ℕ) → f ≡ At k → refused (x k) o ≡ pick b (refused (x n) o) given
+-- ---- refusals 6 and 7: x at n where b says so
+module _ (x : ℕ → Refusal) (b : Bool) (n : ℕ) (f : Found) (e : f ≡ pick b (At (0 + n)) Nowhere) where
+  found-at : (k : ℕ) → f ≡ At k → Is (x k) ≡ pick b (Is (x n)) Nothing
   found-at k h = go b (sym e ∙ h)
     where
-      go : (b : Bool) → pick b (At (0 + n)) Nowhere ≡ At k → refused (x k) o ≡ pick b (refused (x n) o) given
+      go : (b : Bool) → pick b (At (0 + n)) Nowhere ≡ At k → Is (x k) ≡ pick b (Is (x n)) Nothing
       go true z = let s : 0 + n ≡ k = cc in let p : k ≡ n = omega arith in rw p
       go false z = let p : _≡_ {A = ℕ} 0 1 = cc in absurd (omega arith)
 
-  found-nowhere : f ≡ Nowhere → (r : Outcome) → r ≡ given → r ≡ pick b (refused (x n) o) given
-  found-nowhere h r g = go b (sym e ∙ h)
+  found-nowhere : f ≡ Nowhere → Nothing ≡ pick b (Is (x n)) Nothing
+  found-nowhere h = go b (sym e ∙ h)
     where
-      go : (b : Bool) → pick b (At (0 + n)) Nowhere ≡ Nowhere → r ≡ pick b (refused (x n) o) given
+      go : (b : Bool) → pick b (At (0 + n)) Nowhere ≡ Nowhere → Nothing ≡ pick b (Is (x n)) Nothing
       go true z = let p : _≡_ {A = ℕ} 0 1 = cc in absurd (omega arith)
-      go false z = g
+      go false z = refl
 
-module _ (lim : Limits) (l : Lent) (w c : ManifestRow) (o : LentList) (f : Found) where
+module _ (side : Side) (ws cs : List Segment) (f : Found) where
+  module _ (s : side ≡ Writer) (e : f ≡ firstOnly 0 ws cs) where
+    pub only-at : (k : ℕ) → f ≡ At k → Is (CompactorOnly k) ≡ faultOf side ws cs
+    unfolding firstOnly faultOf
+    only-at k h = rw s (found-at CompactorOnly (refuses6 ws cs) (place6 ws cs) f e k h)
+
+    pub only-nowhere : f ≡ Nowhere → Nothing ≡ faultOf side ws cs
+    unfolding firstOnly faultOf
+    only-nowhere h = rw s (found-nowhere CompactorOnly (refuses6 ws cs) (place6 ws cs) f e h)
+
+  module _ (s : side ≡ Compactor) (e : f ≡ firstNest 0 (prefixes (fromCompactor ws cs))) where
+    pub nest-at : (k : ℕ) → f ≡ At k → Is (KeptNest k) ≡ faultOf side ws cs
+    unfolding firstNest faultOf
+    nest-at k h = rw s (found-at KeptNest (refuses7 (fromCompactor ws cs)) (place7 (fromCompactor ws cs)) f e k h)
+
+    pub nest-nowhere : f ≡ Nowhere → Nothing ≡ faultOf side ws cs
+    unfolding firstNest faultOf
+    nest-nowhere h = rw s (found-nowhere KeptNest (refuses7 (fromCompactor ws cs)) (place7 (fromCompactor ws cs)) f e h)
+
+-- the merge's own refusal, else the list
+module _ (side : Side) (lim : Limits) (l : Lent) (w c : ManifestRow) (o : LentList) (f : Fault)
+    (e : f ≡ faultOf side (segmentsIn (l .segments) (l .runs) (l .views) (l .pool) (w .segments)) (segmentsIn (l .segments) (l .runs) (l .views) (l .pool) (c .segments))) where
   abbrev ws : List Segment
   ws = manifestIn l w .segments
 
   abbrev cs : List Segment
   cs = manifestIn l c .segments
 
-  module _ (e : f ≡ firstOnly 0 (segmentsIn (l .segments) (l .runs) (l .views) (l .pool) (w .segments)) (segmentsIn (l .segments) (l .runs) (l .views) (l .pool) (c .segments))) where
-    pub only-refused : (k : ℕ) → f ≡ At k → refused (CompactorOnly k) o ≡ writerGiven lim ws cs o
-    unfolding firstOnly writerGiven manifestIn
-    only-refused k h = found-at CompactorOnly (refuses6 ws cs) (place6 ws cs) (listGiven lim (fromWriter ws cs) o) o f e k h
+  own-refused : (b : Bool) (x y : Refusal) (given : Outcome) → pick b (Is y) Nothing ≡ Is x → refused x o ≡ pick b (refused y o) given
+  own-refused true x y given z = let p : x ≡ y = cc in rw p
+  own-refused false x y given z = let p : _≡_ {A = ℕ} 0 1 = cc in absurd (omega arith)
 
-    pub only-given : f ≡ Nowhere → (r : Outcome) → r ≡ listGiven lim (fromWriter (segmentsIn (l .segments) (l .runs) (l .views) (l .pool) (w .segments)) (segmentsIn (l .segments) (l .runs) (l .views) (l .pool) (c .segments))) o → r ≡ writerGiven lim ws cs o
-    unfolding firstOnly writerGiven manifestIn
-    only-given h r g = found-nowhere CompactorOnly (refuses6 ws cs) (place6 ws cs) (listGiven lim (fromWriter ws cs) o) o f e h r g
+  own-given : (b : Bool) (y : Refusal) (r given : Outcome) → pick b (Is y) Nothing ≡ Nothing → r ≡ given → r ≡ pick b (refused y o) given
+  own-given true y r given z g = let p : _≡_ {A = ℕ} 0 1 = cc in absurd (omega arith)
+  own-given false y r given z g = g
 
-  module _ (e : f ≡ firstNest 0 (prefixes (fromCompactor (segmentsIn (l .segments) (l .runs) (l .views) (l .pool) (w .segments)) (segmentsIn (l .segments) (l .runs) (l .views) (l .pool) (c .segments))))) where
-    pub nest-refused : (k : ℕ) → f ≡ At k → refused (KeptNest k) o ≡ compactorGiven lim ws cs o
-    unfolding firstNest compactorGiven manifestIn
-    nest-refused k h = found-at KeptNest (refuses7 (fromCompactor ws cs)) (place7 (fromCompactor ws cs)) (listGiven lim (fromCompactor ws cs) o) o f e k h
+  pub judged-refused : (x : Refusal) → f ≡ Is x → refused x o ≡ givenBy side lim ws cs o
+  unfolding faultOf givenBy writerGiven compactorGiven manifestIn
+  judged-refused x h = go side (sym e ∙ h)
+    where
+      go : (side : Side) → faultOf side ws cs ≡ Is x → refused x o ≡ givenBy side lim ws cs o
+      go Writer z = own-refused (refuses6 ws cs) x (CompactorOnly (place6 ws cs)) (listGiven lim (fromWriter ws cs) o) z
+      go Compactor z = let ss = fromCompactor ws cs in own-refused (refuses7 ss) x (KeptNest (place7 ss)) (listGiven lim ss o) z
 
-    pub nest-given : f ≡ Nowhere → (r : Outcome) → r ≡ listGiven lim (fromCompactor (segmentsIn (l .segments) (l .runs) (l .views) (l .pool) (w .segments)) (segmentsIn (l .segments) (l .runs) (l .views) (l .pool) (c .segments))) o → r ≡ compactorGiven lim ws cs o
-    unfolding firstNest compactorGiven manifestIn
-    nest-given h r g = found-nowhere KeptNest (refuses7 (fromCompactor ws cs)) (place7 (fromCompactor ws cs)) (listGiven lim (fromCompactor ws cs) o) o f e h r g
+  pub judged-given : f ≡ Nothing → (r : Outcome)
+      → r ≡ listGiven lim (mergedFrom side (segmentsIn (l .segments) (l .runs) (l .views) (l .pool) (w .segments)) (segmentsIn (l .segments) (l .runs) (l .views) (l .pool) (c .segments))) o
+      → r ≡ givenBy side lim ws cs o
+  unfolding faultOf givenBy writerGiven compactorGiven manifestIn
+  judged-given h r g = go side (sym e ∙ h) g
+    where
+      go : (side : Side) → faultOf side ws cs ≡ Nothing → r ≡ listGiven lim (mergedFrom side ws cs) o → r ≡ givenBy side lim ws cs o
+      go Writer z g = own-given (refuses6 ws cs) (CompactorOnly (place6 ws cs)) r (listGiven lim (fromWriter ws cs) o) z g
+      go Compactor z g = let ss = fromCompactor ws cs in own-given (refuses7 ss) (KeptNest (place7 ss)) r (listGiven lim ss o) z g
 
 -- ---- refusal 1, of the writer's manifest and then of the compactor's
 module _ (lim : Limits) (l : Lent) (w c : ManifestRow) (given : Outcome) (o : LentList) (a : Judged) (e : a ≡ judgedOf lim l w) where

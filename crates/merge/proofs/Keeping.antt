@@ -31,8 +31,8 @@ use Rattle.segments.proofs.Places.{and-both}
 use Rattle.merge.specs.Tree.{absorbed, until}
 use Rattle.merge.specs.Rows.{leftOf, mergedTree}
 use Rattle.merge.specs.Steps.{stepBy, stepOf, newRow, mergedRow, emptyRow, filledKeep, keepBy, rowKept}
-use Rattle.merge.specs.declared.Source.{Source}
-use Rattle.merge.specs.declared.Source.the-variants.{Writer, Compactor}
+use Rattle.merge.specs.declared.Side.{Side}
+use Rattle.merge.specs.declared.Side.the-variants.{Writer, Compactor}
 use Rattle.merge.specs.declared.MergeStep.{MergeStep}
 use Rattle.merge.specs.declared.MergeStep.the-variants.{End, WriterOnly, CompactorOnly, Both}
 use Rattle.merge.specs.declared.Keep.{Keep}
@@ -163,7 +163,7 @@ module _ (lim : Limits) (views runs pool : List ℕ) where
       go true = tt
       go false = a
 
-  pub keep-kept : (source : Source) (s : MergeStep) → StepKept s → KeepKept (keepBy source views runs s)
+  pub keep-kept : (side : Side) (s : MergeStep) → StepKept s → KeepKept (keepBy side views runs s)
   keep-kept Writer End k = tt
   keep-kept Writer (WriterOnly w) k = merged-kept w (record { prefix = w .prefix; tree = newRow }) k (new-kept w k)
   keep-kept Writer (CompactorOnly c) k = tt

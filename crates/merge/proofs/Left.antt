@@ -27,8 +27,8 @@ use Rattle.lawful.specs.Steps.{prefixAt}
 use Rattle.segments.specs.Prefixes.{prefixes, prefixesIn}
 use Rattle.merge.specs.Steps.{rowsIn, segmentsOf, stepBy, stepOf, writerTaken, compactorTaken, keepIn, mergedFrom, stepAt, nextOf}
 use Rattle.merge.specs.Merge.{eitherOf, fromWriter, fromCompactor}
-use Rattle.merge.specs.declared.Source.{Source}
-use Rattle.merge.specs.declared.Source.the-variants.{Writer, Compactor}
+use Rattle.merge.specs.declared.Side.{Side}
+use Rattle.merge.specs.declared.Side.the-variants.{Writer, Compactor}
 use Rattle.merge.specs.declared.MergeStep.{MergeStep}
 use Rattle.merge.specs.declared.Next.{Next}
 use Rattle.merge.proofs.Ascending.{Ascending, ascending-of}
@@ -104,12 +104,12 @@ module _ (segments views runs pool : List ℕ) (w c : Window) (n m : ℕ) where
       record { fits = omega arith }
 
 -- the result's segments that are still to come
-abbrev pub left : Source → List ℕ → List ℕ → List ℕ → List ℕ → Window → Window → ℕ → ℕ → List Segment
-left source segments views runs pool w c i j =
-    mergedFrom source (segmentsOf runs views pool (drop i (rowsIn segments w))) (segmentsOf runs views pool (drop j (rowsIn segments c)))
+abbrev pub left : Side → List ℕ → List ℕ → List ℕ → List ℕ → Window → Window → ℕ → ℕ → List Segment
+left side segments views runs pool w c i j =
+    mergedFrom side (segmentsOf runs views pool (drop i (rowsIn segments w))) (segmentsOf runs views pool (drop j (rowsIn segments c)))
 
-pub left-all : (source : Source) (segments views runs pool : List ℕ) (w c : Window) → left source segments views runs pool w c 0 0 ≡ mergedFrom source (segmentsIn segments runs views pool w) (segmentsIn segments runs views pool c)
-left-all source segments views runs pool w c = rw (segments-of runs views pool segments w, segments-of runs views pool segments c)
+pub left-all : (side : Side) (segments views runs pool : List ℕ) (w c : Window) → left side segments views runs pool w c 0 0 ≡ mergedFrom side (segmentsIn segments runs views pool w) (segmentsIn segments runs views pool c)
+left-all side segments views runs pool w c = rw (segments-of runs views pool segments w, segments-of runs views pool segments c)
 
 module _ (segments views runs pool : List ℕ) (w c : Window) (n m i j : ℕ) (b : Between segments views runs pool w c n m i j) where
   pub cursors-fit : length segments < 2 ^ 64 → (i + 1 < 2 ^ 64) × (j + 1 < 2 ^ 64)
@@ -124,13 +124,13 @@ module _ (segments views runs pool : List ℕ) (w c : Window) (n m i j : ℕ) (b
       let q = held-most c (length segments / 12) in
       record { fits = omega (arith, b .writer, b .compactor, b .i-within, b .j-within) }
 
-  pub left-end : (source : Source) → n + m ≤ i + j → left source segments views runs pool w c i j ≡ []
+  pub left-end : (side : Side) → n + m ≤ i + j → left side segments views runs pool w c i j ≡ []
   unfolding fromWriter fromCompactor eitherOf
-  left-end source h =
+  left-end side h =
       rw (rows-end segments w n i (b .writer) (omega (arith, b .i-within, b .j-within)), rows-end segments c m j (b .compactor) (omega (arith, b .i-within, b .j-within)))
-      (none source)
+      (none side)
     where
-      none : (s : Source) → mergedFrom s [] [] ≡ []
+      none : (s : Side) → mergedFrom s [] [] ≡ []
       none Writer = refl
       none Compactor = refl
 
@@ -157,7 +157,7 @@ module _ (segments views runs pool : List ℕ) (w c : Window) (n m i j : ℕ) (b
         ]
       ]
 
-  module _ (source : Source) (r : Next) (e : r ≡ nextOf source segments views runs pool w c i j) (h : i + j < n + m) where
+  module _ (side : Side) (r : Next) (e : r ≡ nextOf side segments views runs pool w c i j) (h : i + j < n + m) where
     pub next-between : Between segments views runs pool w c n m (r .i) (r .j)
     unfolding nextOf
     next-between = record { writer = b .writer; compactor = b .compactor; i-within = rw e (taken h .0); j-within = rw e (taken h .1); w-ascends = b .w-ascends; c-ascends = b .c-ascends }
@@ -169,9 +169,9 @@ module _ (segments views runs pool : List ℕ) (w c : Window) (n m i j : ℕ) (b
     pub next-less : (end : ℕ) → end ≡ n + m → end - (r .i + r .j) < end - (i + j)
     next-less end f = omega (arith, next-on)
 
-    pub next-left : left source segments views runs pool w c i j ≡ keepIn runs views pool (r .keep) ++ left source segments views runs pool w c (r .i) (r .j)
+    pub next-left : left side segments views runs pool w c i j ≡ keepIn runs views pool (r .keep) ++ left side segments views runs pool w c (r .i) (r .j)
     unfolding nextOf
     next-left =
         let s = stepAt segments pool w c i j in
         rw (e, ← drop-drop (writerTaken s) i (rowsIn segments w), ← drop-drop (compactorTaken s) j (rowsIn segments c))
-        (gives runs views pool source (drop i (rowsIn segments w)) (drop j (rowsIn segments c)) (ascending-drop runs views pool i (rowsIn segments w) (b .w-ascends)) (ascending-drop runs views pool j (rowsIn segments c) (b .c-ascends)))
+        (gives runs views pool side (drop i (rowsIn segments w)) (drop j (rowsIn segments c)) (ascending-drop runs views pool i (rowsIn segments w) (b .w-ascends)) (ascending-drop runs views pool j (rowsIn segments c) (b .c-ascends)))

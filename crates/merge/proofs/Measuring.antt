@@ -29,7 +29,7 @@ use Rattle.measure.proofs.Rows.{step-key, tree-step, treeShort}
 use Rattle.segments.specs.Prefixes.{prefixesIn}
 use Rattle.segments.proofs.Places.{and-both}
 use Rattle.merge.specs.Steps.{rowsIn, stepAt, keepIn, mergedFrom, nextOf, rowKept, keepWalk, listMeasured}
-use Rattle.merge.specs.declared.Source.{Source}
+use Rattle.merge.specs.declared.Side.{Side}
 use Rattle.merge.specs.declared.Keep.{Keep}
 use Rattle.merge.specs.declared.Keep.the-variants.{Nothing, Kept}
 use Rattle.merge.specs.declared.Next.{Next}
@@ -94,9 +94,9 @@ module _ (lim : Limits) (views runs pool : List ℕ) where
       ∙ rw (a .0, a .1) (ap (addOf (lim .fill) c) (sym (plus-empty (segmentFill (segmentIn runs views pool s)))))
 
 -- ---- the loop
-module _ (source : Source) (lim : Limits) (segments runs views pool : List ℕ) (w c : Window) where
+module _ (side : Side) (lim : Limits) (segments runs views pool : List ℕ) (w c : Window) where
   abbrev all : List Segment
-  all = mergedFrom source (segmentsIn segments runs views pool w) (segmentsIn segments runs views pool c)
+  all = mergedFrom side (segmentsIn segments runs views pool w) (segmentsIn segments runs views pool c)
 
   pub record Measuring (n m end i j : ℕ) (to : Fill) : Type 0 where
     pub ends : end ≡ n + m
@@ -104,7 +104,7 @@ module _ (source : Source) (lim : Limits) (segments runs views pool : List ℕ) 
     pub w-kept : allOf (rowKept lim views runs pool) (rowsIn segments w) ≡ true
     pub c-kept : allOf (rowKept lim views runs pool) (rowsIn segments c) ≡ true
     pub within : fits to (lim .fill) ≡ true
-    pub says : addOf (lim .fill) to (sum segmentFill (left source segments views runs pool w c i j)) ≡ listMeasured lim all
+    pub says : addOf (lim .fill) to (sum segmentFill (left side segments views runs pool w c i j)) ≡ listMeasured lim all
 
   pub measuring-none : (n m : ℕ) → n ≡ heldOf w (length segments / 12) → m ≡ heldOf c (length segments / 12)
       → chain lessOf (prefixesIn segments pool w) ≡ true → chain lessOf (prefixesIn segments pool c) ≡ true
@@ -118,31 +118,31 @@ module _ (source : Source) (lim : Limits) (segments runs views pool : List ℕ) 
         w-kept = h;
         c-kept = k;
         within = true-says (says-fits empty (lim .fill)) (record { segments = omega arith; views = omega arith; runs = omega arith; borrows = omega arith; ids = omega arith; bytes = omega arith });
-        says = ap (λ (z : Fill). pick (fits z (lim .fill)) (Fills z) Broken) (empty-plus (sum segmentFill (left source segments views runs pool w c 0 0)) ∙ ap (sum segmentFill) (left-all source segments views runs pool w c));
+        says = ap (λ (z : Fill). pick (fits z (lim .fill)) (Fills z) Broken) (empty-plus (sum segmentFill (left side segments views runs pool w c 0 0)) ∙ ap (sum segmentFill) (left-all side segments views runs pool w c));
       }
 
   module _ (n m end i j : ℕ) (to : Fill) (y : Measuring n m end i j to) where
     abbrev rest : ℕ → ℕ → List Segment
-    rest k l = left source segments views runs pool w c k l
+    rest k l = left side segments views runs pool w c k l
 
     pub measuring-all : end ≤ i + j → Fills to ≡ listMeasured lim all
     measuring-all h =
-        let z : rest i j ≡ [] = left-end segments views runs pool w c n m i j (y .between) source (omega (arith, y .ends)) in
+        let z : rest i j ≡ [] = left-end segments views runs pool w c n m i j (y .between) side (omega (arith, y .ends)) in
         add-none (lim .fill) to (y .within) ∙ (rw z at (y .says))
 
-    module _ (t : Next) (e : t ≡ nextOf source segments views runs pool w c i j) (h : i + j < end) where
+    module _ (t : Next) (e : t ≡ nextOf side segments views runs pool w c i j) (h : i + j < end) where
       h′ : i + j < n + m
       h′ = omega (arith, y .ends)
 
       pub measuring-less : end - (t .i + t .j) < end - (i + j)
-      measuring-less = next-less segments views runs pool w c n m i j (y .between) source t e h′ end (y .ends)
+      measuring-less = next-less segments views runs pool w c n m i j (y .between) side t e h′ end (y .ends)
 
       abbrev kept : List Segment
       kept = keepIn runs views pool (t .keep)
 
       sums : addOf (lim .fill) to (plus (sum segmentFill kept) (sum segmentFill (rest (t .i) (t .j)))) ≡ listMeasured lim all
       sums =
-          ap (addOf (lim .fill) to) (sym (sum-append segmentFill kept (rest (t .i) (t .j))) ∙ ap (sum segmentFill) (sym (next-left segments views runs pool w c n m i j (y .between) source t e h′)))
+          ap (addOf (lim .fill) to) (sym (sum-append segmentFill kept (rest (t .i) (t .j))) ∙ ap (sum segmentFill) (sym (next-left segments views runs pool w c n m i j (y .between) side t e h′)))
           ∙ y .says
 
       module _ (u : Measured) (f : u ≡ keepWalk lim views runs (length pool) (t .keep) to) where
@@ -151,7 +151,7 @@ module _ (source : Source) (lim : Limits) (segments runs views pool : List ℕ) 
         adds =
             f
             ∙ kept-adds lim views runs pool (t .keep)
-            (rw e (keep-kept lim views runs pool source (stepAt segments pool w c i j) (step-kept lim views runs pool (drop i (rowsIn segments w)) (drop j (rowsIn segments c)) (all-drop (rowKept lim views runs pool) i (rowsIn segments w) (y .w-kept)) (all-drop (rowKept lim views runs pool) j (rowsIn segments c) (y .c-kept)))))
+            (rw e (keep-kept lim views runs pool side (stepAt segments pool w c i j) (step-kept lim views runs pool (drop i (rowsIn segments w)) (drop j (rowsIn segments c)) (all-drop (rowKept lim views runs pool) i (rowsIn segments w) (y .w-kept)) (all-drop (rowKept lim views runs pool) j (rowsIn segments c) (y .c-kept)))))
             to (y .within)
 
         pub measuring-broken : u ≡ Broken → Broken ≡ listMeasured lim all
@@ -162,7 +162,7 @@ module _ (source : Source) (lim : Limits) (segments runs views pool : List ℕ) 
             let a = add-on (lim .fill) to (sum segmentFill kept) (sum segmentFill (rest (t .i) (t .j))) u adds d b in
             record {
               ends = y .ends;
-              between = next-between segments views runs pool w c n m i j (y .between) source t e h′;
+              between = next-between segments views runs pool w c n m i j (y .between) side t e h′;
               w-kept = y .w-kept;
               c-kept = y .c-kept;
               within = a .0;

@@ -20,7 +20,7 @@ use Rattle.segments.specs.Prefixes.{prefixes, prefixesIn}
 use Rattle.merge.specs.Merge.{nests, nestsAt, fromCompactor}
 use Rattle.merge.specs.Steps.{keepIn, nextOf}
 use Rattle.merge.specs.Finds.{firstNest, nestIn, nestStep, nestCount, nestFound}
-use Rattle.merge.specs.declared.Source.the-variants.{Compactor}
+use Rattle.merge.specs.declared.Side.the-variants.{Compactor}
 use Rattle.merge.specs.declared.Keep.{Keep}
 use Rattle.merge.specs.declared.Keep.the-variants.{Nothing, Kept}
 use Rattle.merge.specs.declared.Next.{Next}

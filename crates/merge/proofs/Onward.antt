@@ -24,8 +24,8 @@ use Rattle.segments.specs.Prefixes.{prefixes}
 use Rattle.merge.specs.Tree.{noViews, noRuns, isEmpty}
 use Rattle.merge.specs.Merge.{filled}
 use Rattle.merge.specs.Steps.{segmentsOf, stepBy, stepOf, writerTaken, compactorTaken, newRow, mergedRow, emptyRow, filledKeep, keepBy, keepIn, mergedFrom}
-use Rattle.merge.specs.declared.Source.{Source}
-use Rattle.merge.specs.declared.Source.the-variants.{Writer, Compactor}
+use Rattle.merge.specs.declared.Side.{Side}
+use Rattle.merge.specs.declared.Side.the-variants.{Writer, Compactor}
 use Rattle.merge.specs.declared.MergeStep.{MergeStep}
 use Rattle.merge.specs.declared.MergeStep.the-variants.{WriterOnly, CompactorOnly, Both}
 use Rattle.merge.specs.declared.Keep.the-variants.{Nothing, Kept}
@@ -68,13 +68,13 @@ module _ (runs views pool : List ℕ) where
   filled-row p w c = filled-in (mergedRow views p w c) ∙ ap (λ (s : Segment). filled (s ∷ [])) (row-in p w c)
 
   -- ---- what a step gives, and what is left
-  abbrev pub Gives : Source → List SegmentRow → List SegmentRow → MergeStep → Type 0
-  Gives source ws cs s =
-      mergedFrom source (segmentsOf runs views pool ws) (segmentsOf runs views pool cs)
-      ≡ keepIn runs views pool (keepBy source views runs s) ++ mergedFrom source (segmentsOf runs views pool (drop (writerTaken s) ws)) (segmentsOf runs views pool (drop (compactorTaken s) cs))
+  abbrev pub Gives : Side → List SegmentRow → List SegmentRow → MergeStep → Type 0
+  Gives side ws cs s =
+      mergedFrom side (segmentsOf runs views pool ws) (segmentsOf runs views pool cs)
+      ≡ keepIn runs views pool (keepBy side views runs s) ++ mergedFrom side (segmentsOf runs views pool (drop (writerTaken s) ws)) (segmentsOf runs views pool (drop (compactorTaken s) cs))
 
   module _ (w : SegmentRow) (ws cs : List SegmentRow) (a : Above (bytesIn pool (w .prefix)) (prefixes (segmentsOf runs views pool ws))) (b : Above (bytesIn pool (w .prefix)) (prefixes (segmentsOf runs views pool cs))) where
-    first-gives : (source : Source) → Gives source (w ∷ ws) cs (WriterOnly w)
+    first-gives : (side : Side) → Gives side (w ∷ ws) cs (WriterOnly w)
     unfolding segmentIn
     first-gives Writer = rw (row-in (w .prefix) (w .tree) newRow, new-in) (writer-first (segmentIn runs views pool w) (segmentsOf runs views pool ws) (segmentsOf runs views pool cs) a b)
     first-gives Compactor =
@@ -82,7 +82,7 @@ module _ (runs views pool : List ℕ) where
         (compactor-first (segmentIn runs views pool w) (segmentsOf runs views pool ws) (segmentsOf runs views pool cs) a b)
 
   module _ (w c : SegmentRow) (ws cs : List SegmentRow) (e : bytesIn pool (c .prefix) ≡ bytesIn pool (w .prefix)) (a : Above (bytesIn pool (w .prefix)) (prefixes (segmentsOf runs views pool ws))) (b : Above (bytesIn pool (w .prefix)) (prefixes (segmentsOf runs views pool cs))) where
-    both-gives : (source : Source) → Gives source (w ∷ ws) (c ∷ cs) (Both w c)
+    both-gives : (side : Side) → Gives side (w ∷ ws) (c ∷ cs) (Both w c)
     unfolding segmentIn
     both-gives Writer = rw (row-in (w .prefix) (w .tree) (c .tree)) (writer-both (segmentIn runs views pool w) (segmentIn runs views pool c) (segmentsOf runs views pool ws) (segmentsOf runs views pool cs) e a b)
     both-gives Compactor =
@@ -90,22 +90,22 @@ module _ (runs views pool : List ℕ) where
         (compactor-both (segmentIn runs views pool w) (segmentIn runs views pool c) (segmentsOf runs views pool ws) (segmentsOf runs views pool cs) e a b)
 
   module _ (c : SegmentRow) (ws cs : List SegmentRow) (a : Above (bytesIn pool (c .prefix)) (prefixes (segmentsOf runs views pool ws))) (b : Above (bytesIn pool (c .prefix)) (prefixes (segmentsOf runs views pool cs))) where
-    second-gives : (source : Source) → Gives source ws (c ∷ cs) (CompactorOnly c)
+    second-gives : (side : Side) → Gives side ws (c ∷ cs) (CompactorOnly c)
     unfolding segmentIn
     second-gives Writer = writer-skip (segmentIn runs views pool c) (segmentsOf runs views pool ws) (segmentsOf runs views pool cs) a
     second-gives Compactor =
         rw (filled-row (c .prefix) newRow (c .tree), new-in)
         (compactor-second (segmentIn runs views pool c) (segmentsOf runs views pool ws) (segmentsOf runs views pool cs) a b)
 
-  pub gives : (source : Source) (ws cs : List SegmentRow) → Ascending (prefixes (segmentsOf runs views pool ws)) → Ascending (prefixes (segmentsOf runs views pool cs)) → Gives source ws cs (stepOf pool ws cs)
+  pub gives : (side : Side) (ws cs : List SegmentRow) → Ascending (prefixes (segmentsOf runs views pool ws)) → Ascending (prefixes (segmentsOf runs views pool cs)) → Gives side ws cs (stepOf pool ws cs)
   unfolding stepOf segmentIn
   gives Writer [] [] a b = refl
   gives Compactor [] [] a b = refl
-  gives source (w ∷ ws) [] (Ascending.more a _) b = first-gives w ws [] a Above.none source
-  gives source [] (c ∷ cs) a (Ascending.more b _) = second-gives c [] cs Above.none b source
-  gives source (w ∷ ws) (c ∷ cs) (Ascending.more a _) (Ascending.more b _) = go (stand (bytesIn pool (w .prefix)) (bytesIn pool (c .prefix)))
+  gives side (w ∷ ws) [] (Ascending.more a _) b = first-gives w ws [] a Above.none side
+  gives side [] (c ∷ cs) a (Ascending.more b _) = second-gives c [] cs Above.none b side
+  gives side (w ∷ ws) (c ∷ cs) (Ascending.more a _) (Ascending.more b _) = go (stand (bytesIn pool (w .prefix)) (bytesIn pool (c .prefix)))
     where
-      go : {o : Order} → Stand (bytesIn pool (w .prefix)) (bytesIn pool (c .prefix)) o → Gives source (w ∷ ws) (c ∷ cs) (stepBy o w c)
-      go (Stand.less h) = first-gives w ws (c ∷ cs) a (Above.more h (above-on h b)) source
-      go (Stand.same e) = both-gives w c ws cs (sym e) a (rw e b) source
-      go (Stand.more h) = second-gives c (w ∷ ws) cs (Above.more h (above-on h a)) b source
+      go : {o : Order} → Stand (bytesIn pool (w .prefix)) (bytesIn pool (c .prefix)) o → Gives side (w ∷ ws) (c ∷ cs) (stepBy o w c)
+      go (Stand.less h) = first-gives w ws (c ∷ cs) a (Above.more h (above-on h b)) side
+      go (Stand.same e) = both-gives w c ws cs (sym e) a (rw e b) side
+      go (Stand.more h) = second-gives c (w ∷ ws) cs (Above.more h (above-on h a)) b side

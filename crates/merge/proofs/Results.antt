@@ -5,7 +5,7 @@ use mathlib.Core.Bool.{Bool, true, false, not, _&&_, _||_}
 use mathlib.Core.List.{List, [], _∷_}
 use native.Mathlib.Omega.{arith}
 use Rattle.keys.specs.Pick.{pick}
-use Rattle.keys.specs.Key.{Below, isLess, lessOf}
+use Rattle.keys.specs.Key.{Below, isLess, lessOf, isEqual}
 use Rattle.keys.specs.Prefix.{Bytes, Begins, beginsOf}
 use Rattle.keys.specs.declared.Order.{Order}
 use Rattle.keys.proofs.Says.{says-not, true-says, says-false}
@@ -20,7 +20,7 @@ use Rattle.measure.proofs.Lists.{all-append}
 use Rattle.lawful.specs.Law.{l2Of, apartOf, l3Of, viewLawful, l4Of, runLawful, l5Of}
 use Rattle.lawful.proofs.Rules.{all-trees}
 use Rattle.segments.specs.Prefixes.{prefixes}
-use Rattle.segments.specs.Lookup.{isEqual, sameOf}
+use Rattle.segments.specs.Lookup.{sameOf}
 use Rattle.segments.specs.Insert.{withSegments}
 use Rattle.segments.proofs.Places.{and-both}
 use Rattle.segments.proofs.Demand3.{chain-prefixes, pairs-prefixes}

@@ -21,8 +21,8 @@ use Rattle.records.specs.Decode.{bytesIn}
 use Rattle.records.specs.declared.TreeRow.{TreeRow}
 use Rattle.records.specs.declared.SegmentRow.{SegmentRow}
 use Rattle.merge.specs.Steps.{rowsIn, stepBy, stepOf, writerTaken, compactorTaken, newRow, mergedRow, writerKeep, emptyRow, filledKeep, compactorKeep, keepBy, stepAt, nextOf}
-use Rattle.merge.specs.declared.Source.{Source}
-use Rattle.merge.specs.declared.Source.the-variants.{Writer, Compactor}
+use Rattle.merge.specs.declared.Side.{Side}
+use Rattle.merge.specs.declared.Side.the-variants.{Writer, Compactor}
 use Rattle.merge.specs.declared.MergeStep.{MergeStep}
 use Rattle.merge.specs.declared.MergeStep.the-variants.{End, WriterOnly, CompactorOnly, Both}
 use Rattle.merge.specs.declared.Keep.{Keep}
@@ -145,17 +145,17 @@ pub ruleset keeps = (keep-end, keep-not, keep-writer, keep-both)
 
 pub ruleset takes = (take-end, take-writer, take-compactor, take-both)
 
-module _ (source : Source) (views runs : List ℕ) (s : MergeStep) (k : Keep) where
-  pub by-writer : source ≡ Writer → k ≡ writerKeep views s → k ≡ keepBy source views runs s
+module _ (side : Side) (views runs : List ℕ) (s : MergeStep) (k : Keep) where
+  pub by-writer : side ≡ Writer → k ≡ writerKeep views s → k ≡ keepBy side views runs s
   by-writer e h = rw e h
 
-  pub by-compactor : source ≡ Compactor → k ≡ compactorKeep views runs s → k ≡ keepBy source views runs s
+  pub by-compactor : side ≡ Compactor → k ≡ compactorKeep views runs s → k ≡ keepBy side views runs s
   by-compactor e h = rw e h
 
 pub ruleset sources = (by-writer, by-compactor)
 
-pub next-by : (source : Source) (segments views runs pool : List ℕ) (w c : Window) (i j : ℕ) (s : MergeStep) (k : Keep) (p : Cursors)
-    → s ≡ stepAt segments pool w c i j → k ≡ keepBy source views runs s → p ≡ record { i = i + writerTaken s; j = j + compactorTaken s }
-    → record { keep = k; i = p .i; j = p .j } ≡ nextOf source segments views runs pool w c i j
+pub next-by : (side : Side) (segments views runs pool : List ℕ) (w c : Window) (i j : ℕ) (s : MergeStep) (k : Keep) (p : Cursors)
+    → s ≡ stepAt segments pool w c i j → k ≡ keepBy side views runs s → p ≡ record { i = i + writerTaken s; j = j + compactorTaken s }
+    → record { keep = k; i = p .i; j = p .j } ≡ nextOf side segments views runs pool w c i j
 unfolding nextOf
-next-by source segments views runs pool w c i j s k p e f g = rw (g, f, e)
+next-by side segments views runs pool w c i j s k p e f g = rw (g, f, e)

@@ -31,7 +31,8 @@ use Rattle.segments.specs.Refuses.{isBroken, ruleOf}
 use Rattle.segments.proofs.Answers.{prefixes-in}
 use Rattle.segments.proofs.Demand3.{lawful-keeps}
 use Rattle.merge.specs.Merge.{fromWriter, refuses6, place6, fromCompactor, refuses7, place7}
-use Rattle.merge.specs.Answer.{LentList, Outcome, listRoom, listOver, refused, listGiven, writerGiven, compactorGiven, judgedBoth, fromWriterOf, fromCompactorOf}
+use Rattle.merge.specs.Answer.{LentList, Outcome, listRoom, listOver, refused, listGiven, writerGiven, compactorGiven, givenBy, judgedBoth, mergeOf}
+use Rattle.merge.specs.declared.Side.the-variants.{Writer, Compactor}
 use Rattle.merge.specs.declared.Merged.the-variants.{Done, Refused}
 use Rattle.merge.proofs.Results.{ListLawful, list-of, BytesEach, writer-lawful, compactor-lawful}
 
@@ -100,8 +101,8 @@ module _ (lim : Limits) (l : Lent) (w c : ManifestRow) (o : LentList) (x : Windo
   abbrev cs : List Segment
   cs = manifestIn l c .segments
 
-  pub writer-stands : fromWriterOf lim l w c o .answer ≡ Done x → (standing (fromWriterOf lim l w c o .out) x ≡ fromWriter ws cs) × ListLawful (fromWriter ws cs)
-  unfolding fromWriterOf writerGiven
+  pub writer-stands : mergeOf Writer lim l w c o .answer ≡ Done x → (standing (mergeOf Writer lim l w c o .out) x ≡ fromWriter ws cs) × ListLawful (fromWriter ws cs)
+  unfolding mergeOf givenBy writerGiven
   writer-stands e =
       let j = judged lim l w c (writerGiven lim ws cs o) o x e in
       let p = passed (refuses6 ws cs) (CompactorOnly (place6 ws cs)) (listGiven lim (fromWriter ws cs) o) o x (j .2) in (
@@ -109,8 +110,8 @@ module _ (lim : Limits) (l : Lent) (w c : ManifestRow) (o : LentList) (x : Windo
         writer-lawful ws cs (lawful-list lim l w (j .0)) (lawful-list lim l c (j .1)),
       )
 
-  pub compactor-stands : Bytes (l .pool) → fromCompactorOf lim l w c o .answer ≡ Done x → (standing (fromCompactorOf lim l w c o .out) x ≡ fromCompactor ws cs) × ListLawful (fromCompactor ws cs)
-  unfolding fromCompactorOf compactorGiven
+  pub compactor-stands : Bytes (l .pool) → mergeOf Compactor lim l w c o .answer ≡ Done x → (standing (mergeOf Compactor lim l w c o .out) x ≡ fromCompactor ws cs) × ListLawful (fromCompactor ws cs)
+  unfolding mergeOf givenBy compactorGiven
   compactor-stands b e =
       let j = judged lim l w c (compactorGiven lim ws cs o) o x e in
       let p = passed (refuses7 (fromCompactor ws cs)) (KeptNest (place7 (fromCompactor ws cs))) (listGiven lim (fromCompactor ws cs) o) o x (j .2) in (

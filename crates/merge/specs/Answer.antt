@@ -17,6 +17,8 @@ use Rattle.records.specs.declared.Refusal.the-variants.{Unlawful, NoRoom, Compa
 use Rattle.copy.specs.Copy.{noRoom}
 use Rattle.segments.specs.Refuses.{refuses1, firstBroken}
 use Rattle.merge.specs.Merge.{fromWriter, refuses6, place6, fromCompactor, refuses7, place7}
+use Rattle.merge.specs.declared.Side.{Side}
+use Rattle.merge.specs.declared.Side.the-variants.{Writer, Compactor}
 use Rattle.merge.specs.declared.Merged.{Merged}
 use Rattle.merge.specs.declared.Merged.the-variants.{Done, Refused}
 
@@ -68,6 +70,11 @@ compactorGiven lim ws cs o =
     pick (refuses7 (fromCompactor ws cs)) (refused (KeptNest (place7 (fromCompactor ws cs))) o)
     (listGiven lim (fromCompactor ws cs) o)
 
+-- the two merges, of lawful manifests' segments
+unfoldable pub givenBy : Side → Limits → List Segment → List Segment → LentList → Outcome
+givenBy Writer lim ws cs o = writerGiven lim ws cs o
+givenBy Compactor lim ws cs o = compactorGiven lim ws cs o
+
 -- "1 (manifests in given order)": "Both take two manifests, the writer's first"
 abbrev pub judgedBoth : Limits → Lent → ManifestRow → ManifestRow → Outcome → LentList → Outcome
 judgedBoth lim l w c given o =
@@ -75,11 +82,9 @@ judgedBoth lim l w c given o =
     (pick (refuses1 lim l c) (refused (Unlawful (firstBroken lim l c)) o)
     given)
 
-unfoldable pub fromWriterOf : Limits → Lent → ManifestRow → ManifestRow → LentList → Outcome
-fromWriterOf lim l w c o = judgedBoth lim l w c (writerGiven lim (manifestIn l w .segments) (manifestIn l c .segments) o) o
-
-unfoldable pub fromCompactorOf : Limits → Lent → ManifestRow → ManifestRow → LentList → Outcome
-fromCompactorOf lim l w c o = judgedBoth lim l w c (compactorGiven lim (manifestIn l w .segments) (manifestIn l c .segments) o) o
+-- a merge of any two manifests
+unfoldable pub mergeOf : Side → Limits → Lent → ManifestRow → ManifestRow → LentList → Outcome
+mergeOf side lim l w c o = judgedBoth lim l w c (givenBy side lim (manifestIn l w .segments) (manifestIn l c .segments) o) o
 
 -- the number and the values of each answer
 abbrev pub merged : Merged → List ℕ

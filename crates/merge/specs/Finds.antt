@@ -7,8 +7,13 @@ use Rattle.keys.specs.Prefix.{beginsOf}
 use Rattle.tables.specs.declared.Window.{Window}
 use Rattle.records.specs.Model.{Segment}
 use Rattle.records.specs.Decode.{bytesIn}
-use Rattle.merge.specs.Merge.{refuses6, place6, nests, nestsAt}
+use Rattle.records.specs.declared.Refusal.the-variants as refusal
+use Rattle.merge.specs.Merge.{refuses6, place6, fromCompactor, refuses7, place7, nests, nestsAt}
 use Rattle.merge.specs.Steps.{stepAt, writerTaken, compactorTaken, emptyRow}
+use Rattle.merge.specs.declared.Side.{Side}
+use Rattle.merge.specs.declared.Side.the-variants.{Writer, Compactor}
+use Rattle.merge.specs.declared.Fault.{Fault}
+use Rattle.merge.specs.declared.Fault.the-variants as fault
 use Rattle.merge.specs.declared.MergeStep.{MergeStep}
 use Rattle.merge.specs.declared.MergeStep.the-variants.{End, WriterOnly, CompactorOnly, Both}
 use Rattle.merge.specs.declared.Keep.{Keep}
@@ -18,6 +23,11 @@ use Rattle.merge.specs.declared.Found.{Found}
 use Rattle.merge.specs.declared.Found.the-variants as found
 use Rattle.merge.specs.declared.Nest.{Nest}
 use Rattle.merge.specs.declared.Nest.the-variants as nest
+
+-- the refusal that is a merge's own
+unfoldable pub faultOf : Side → List Segment → List Segment → Fault
+faultOf Writer ws cs = pick (refuses6 ws cs) (fault.Is (refusal.CompactorOnly (place6 ws cs))) fault.Nothing
+faultOf Compactor ws cs = pick (refuses7 (fromCompactor ws cs)) (fault.Is (refusal.KeptNest (place7 (fromCompactor ws cs)))) fault.Nothing
 
 -- ---- refusal 6
 

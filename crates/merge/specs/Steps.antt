@@ -30,8 +30,8 @@ use Rattle.measure.specs.declared.Measured.{Measured}
 use Rattle.measure.specs.declared.Measured.the-variants.{Broken, Fills}
 use Rattle.merge.specs.Merge.{fromWriter, fromCompactor}
 use Rattle.merge.specs.Rows.{mergedTree}
-use Rattle.merge.specs.declared.Source.{Source}
-use Rattle.merge.specs.declared.Source.the-variants.{Writer, Compactor}
+use Rattle.merge.specs.declared.Side.{Side}
+use Rattle.merge.specs.declared.Side.the-variants.{Writer, Compactor}
 use Rattle.merge.specs.declared.MergeStep.{MergeStep}
 use Rattle.merge.specs.declared.MergeStep.the-variants.{End, WriterOnly, CompactorOnly, Both}
 use Rattle.merge.specs.declared.Keep.{Keep}
@@ -107,7 +107,7 @@ compactorKeep views runs (WriterOnly w) = filledKeep views runs (mergedRow views
 compactorKeep views runs (CompactorOnly c) = filledKeep views runs (mergedRow views (c .prefix) newRow (c .tree))
 compactorKeep views runs (Both w c) = filledKeep views runs (mergedRow views (w .prefix) (w .tree) (c .tree))
 
-abbrev pub keepBy : Source → List ℕ → List ℕ → MergeStep → Keep
+abbrev pub keepBy : Side → List ℕ → List ℕ → MergeStep → Keep
 keepBy Writer views runs s = writerKeep views s
 keepBy Compactor views runs s = compactorKeep views runs s
 
@@ -117,7 +117,7 @@ keepIn runs views pool Nothing = []
 keepIn runs views pool (Kept s) = segmentIn runs views pool s ∷ []
 
 -- which merge
-abbrev pub mergedFrom : Source → List Segment → List Segment → List Segment
+abbrev pub mergedFrom : Side → List Segment → List Segment → List Segment
 mergedFrom Writer ws cs = fromWriter ws cs
 mergedFrom Compactor ws cs = fromCompactor ws cs
 
@@ -125,10 +125,10 @@ mergedFrom Compactor ws cs = fromCompactor ws cs
 abbrev pub stepAt : List ℕ → List ℕ → Window → Window → ℕ → ℕ → MergeStep
 stepAt segments pool w c i j = stepOf pool (drop i (rowsIn segments w)) (drop j (rowsIn segments c))
 
-unfoldable pub nextOf : Source → List ℕ → List ℕ → List ℕ → List ℕ → Window → Window → ℕ → ℕ → Next
-nextOf source segments views runs pool w c i j =
+unfoldable pub nextOf : Side → List ℕ → List ℕ → List ℕ → List ℕ → Window → Window → ℕ → ℕ → Next
+nextOf side segments views runs pool w c i j =
     record {
-      keep = keepBy source views runs (stepAt segments pool w c i j);
+      keep = keepBy side views runs (stepAt segments pool w c i j);
       i = i + writerTaken (stepAt segments pool w c i j);
       j = j + compactorTaken (stepAt segments pool w c i j);
     }

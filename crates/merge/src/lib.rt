@@ -7,8 +7,7 @@ use lawful::Judged;
 use lawful::lawful;
 use measure::Measured;
 use measure::fits_in;
-use merge_faults::find_nest;
-use merge_faults::find_only;
+use merge_faults::own_fault;
 use merge_laid::measure_merged;
 use merge_laid::put_merged;
 pub use merge_steps::merge_writer_and_compactor;
@@ -28,8 +27,9 @@ ghost use Rattle.measure.specs.Tests.{allOf, chain};
 ghost use Rattle.lawful.specs.Judge.{judgedOf};
 ghost use Rattle.lawful.specs.declared.Judged.the-variants.{Lawful};
 ghost use Rattle.segments.specs.Prefixes.{prefixesIn};
-ghost use Rattle.merge.specs.Answer.{listGiven, writerGiven, compactorGiven, fromWriterOf, fromCompactorOf};
+ghost use Rattle.merge.specs.Answer.{listGiven, givenBy, mergeOf};
 ghost use Rattle.merge.specs.Steps.{rowsIn, mergedFrom, rowKept};
+ghost use Rattle.merge.specs.declared.Side.the-variants.{Writer, Compactor};
 
 // Where the merged segment list stands in the output tables, or why there is none.
 pub enum Merged {
@@ -38,7 +38,7 @@ pub enum Merged {
 }
 
 // Whose manifest is merged in.
-enum Source {
+pub enum Side {
     Writer,
     Compactor,
 }
@@ -69,6 +69,12 @@ struct Next {
     j: usize,
 }
 
+// Why a merge of lawful manifests is refused by its own rule, if it is.
+enum Fault {
+    Nothing,
+    Is(Refusal),
+}
+
 // Where something was found.
 enum Found {
     Nowhere,
@@ -93,7 +99,7 @@ enum Nest {
 
 // The merged segments where there is room for them, else nothing changed.
 fn give(
-    source: Source,
+    side: Side,
     lim: Limits,
     segments: &[u64],
     views: &[u64],
@@ -108,9 +114,9 @@ fn give(
 ) -> Merged
     requires { ⌜ (chain lessOf (prefixesIn (now segments) (now pool) w) ≡ true) × (chain lessOf (prefixesIn (now segments) (now pool) c) ≡ true) ⌝ }
     requires { ⌜ (allOf (rowKept lim (now views) (now runs) (now pool)) (rowsIn (now segments) w) ≡ true) × (allOf (rowKept lim (now views) (now runs) (now pool)) (rowsIn (now segments) c) ≡ true) ⌝ }
-    ensures { λ r. ⌜ record { answer = r; out = record { segments = now («out_segments» .exit); views = now («out_views» .exit); runs = now («out_runs» .exit); pool = now («out_pool» .exit) } } ≡ listGiven lim (mergedFrom source (segmentsIn (now (segments .entry)) (now (runs .entry)) (now (views .entry)) (now (pool .entry)) w) (segmentsIn (now (segments .entry)) (now (runs .entry)) (now (views .entry)) (now (pool .entry)) c)) (record { segments = now («out_segments» .entry); views = now («out_views» .entry); runs = now («out_runs» .entry); pool = now («out_pool» .entry) }) ⌝ }
+    ensures { λ r. ⌜ record { answer = r; out = record { segments = now («out_segments» .exit); views = now («out_views» .exit); runs = now («out_runs» .exit); pool = now («out_pool» .exit) } } ≡ listGiven lim (mergedFrom side (segmentsIn (now (segments .entry)) (now (runs .entry)) (now (views .entry)) (now (pool .entry)) w) (segmentsIn (now (segments .entry)) (now (runs .entry)) (now (views .entry)) (now (pool .entry)) c)) (record { segments = now («out_segments» .entry); views = now («out_views» .entry); runs = now («out_runs» .entry); pool = now («out_pool» .entry) }) ⌝ }
 {
-    let u = measure_merged(source, lim, segments, runs, views, pool, w, c);
+    let u = measure_merged(side, lim, segments, runs, views, pool, w, c);
     let Measured::Fills(f) = u else {
         return Merged::Refused(Refusal::NoRoom);
     };
@@ -124,7 +130,7 @@ fn give(
     };
     if fits_in(f, room) {
         let to = put_merged(
-            source,
+            side,
             segments,
             runs,
             views,
@@ -144,9 +150,10 @@ fn give(
     Merged::Refused(Refusal::NoRoom)
 }
 
-// Merge from writer, of two lawful manifests.
+// A merge of two lawful manifests.
 // inner
-pub fn merge_segments_from_writer_judged(
+pub fn merge_judged(
+    side: Side,
     lim: Limits,
     segments: &[u64],
     views: &[u64],
@@ -162,14 +169,14 @@ pub fn merge_segments_from_writer_judged(
     out_pool: &mut [u8],
 ) -> Merged
     requires { ⌜ (judgedOf lim (record { segments = now segments; views = now views; runs = now runs; borrows = now borrows; ids = now ids; pool = now pool }) writer ≡ Lawful) × (judgedOf lim (record { segments = now segments; views = now views; runs = now runs; borrows = now borrows; ids = now ids; pool = now pool }) compactor ≡ Lawful) ⌝ }
-    ensures { λ r. ⌜ record { answer = r; out = record { segments = now («out_segments» .exit); views = now («out_views» .exit); runs = now («out_runs» .exit); pool = now («out_pool» .exit) } } ≡ writerGiven lim (manifestIn (record { segments = now (segments .entry); views = now (views .entry); runs = now (runs .entry); borrows = now (borrows .entry); ids = now (ids .entry); pool = now (pool .entry) }) writer .segments) (manifestIn (record { segments = now (segments .entry); views = now (views .entry); runs = now (runs .entry); borrows = now (borrows .entry); ids = now (ids .entry); pool = now (pool .entry) }) compactor .segments) (record { segments = now («out_segments» .entry); views = now («out_views» .entry); runs = now («out_runs» .entry); pool = now («out_pool» .entry) }) ⌝ }
+    ensures { λ r. ⌜ record { answer = r; out = record { segments = now («out_segments» .exit); views = now («out_views» .exit); runs = now («out_runs» .exit); pool = now («out_pool» .exit) } } ≡ givenBy side lim (manifestIn (record { segments = now (segments .entry); views = now (views .entry); runs = now (runs .entry); borrows = now (borrows .entry); ids = now (ids .entry); pool = now (pool .entry) }) writer .segments) (manifestIn (record { segments = now (segments .entry); views = now (views .entry); runs = now (runs .entry); borrows = now (borrows .entry); ids = now (ids .entry); pool = now (pool .entry) }) compactor .segments) (record { segments = now («out_segments» .entry); views = now («out_views» .entry); runs = now («out_runs» .entry); pool = now («out_pool» .entry) }) ⌝ }
 {
     let w = writer.segments;
     let c = compactor.segments;
-    match find_only(segments, runs, views, pool, w, c) {
-        Found::At(k) => Merged::Refused(Refusal::CompactorOnly(k)),
-        Found::Nowhere => give(
-            Source::Writer,
+    match own_fault(side, segments, views, runs, pool, w, c) {
+        Fault::Is(x) => Merged::Refused(x),
+        Fault::Nothing => give(
+            side,
             lim,
             segments,
             views,
@@ -185,9 +192,9 @@ pub fn merge_segments_from_writer_judged(
     }
 }
 
-// Merge from compactor, of two lawful manifests.
-// inner
-pub fn merge_segments_from_compactor_judged(
+// The writer's manifest is judged first.
+fn merge_segments(
+    side: Side,
     lim: Limits,
     segments: &[u64],
     views: &[u64],
@@ -202,27 +209,33 @@ pub fn merge_segments_from_compactor_judged(
     out_runs: &mut [u64],
     out_pool: &mut [u8],
 ) -> Merged
-    requires { ⌜ (judgedOf lim (record { segments = now segments; views = now views; runs = now runs; borrows = now borrows; ids = now ids; pool = now pool }) writer ≡ Lawful) × (judgedOf lim (record { segments = now segments; views = now views; runs = now runs; borrows = now borrows; ids = now ids; pool = now pool }) compactor ≡ Lawful) ⌝ }
-    ensures { λ r. ⌜ record { answer = r; out = record { segments = now («out_segments» .exit); views = now («out_views» .exit); runs = now («out_runs» .exit); pool = now («out_pool» .exit) } } ≡ compactorGiven lim (manifestIn (record { segments = now (segments .entry); views = now (views .entry); runs = now (runs .entry); borrows = now (borrows .entry); ids = now (ids .entry); pool = now (pool .entry) }) writer .segments) (manifestIn (record { segments = now (segments .entry); views = now (views .entry); runs = now (runs .entry); borrows = now (borrows .entry); ids = now (ids .entry); pool = now (pool .entry) }) compactor .segments) (record { segments = now («out_segments» .entry); views = now («out_views» .entry); runs = now («out_runs» .entry); pool = now («out_pool» .entry) }) ⌝ }
+    ensures { λ r. ⌜ record { answer = r; out = record { segments = now («out_segments» .exit); views = now («out_views» .exit); runs = now («out_runs» .exit); pool = now («out_pool» .exit) } } ≡ mergeOf side lim (record { segments = now (segments .entry); views = now (views .entry); runs = now (runs .entry); borrows = now (borrows .entry); ids = now (ids .entry); pool = now (pool .entry) }) writer compactor (record { segments = now («out_segments» .entry); views = now («out_views» .entry); runs = now («out_runs» .entry); pool = now («out_pool» .entry) }) ⌝ }
 {
-    let w = writer.segments;
-    let c = compactor.segments;
-    match find_nest(segments, runs, views, pool, w, c) {
-        Found::At(k) => Merged::Refused(Refusal::KeptNest(k)),
-        Found::Nowhere => give(
-            Source::Compactor,
-            lim,
-            segments,
-            views,
-            runs,
-            pool,
-            w,
-            c,
-            out_segments,
-            out_views,
-            out_runs,
-            out_pool,
-        ),
+    let a = lawful(lim, segments, views, runs, borrows, ids, pool, writer);
+    match a {
+        Judged::Breaks(rule) => Merged::Refused(Refusal::Unlawful(rule)),
+        Judged::Lawful => {
+            let b = lawful(lim, segments, views, runs, borrows, ids, pool, compactor);
+            match b {
+                Judged::Breaks(rule) => Merged::Refused(Refusal::Unlawful(rule)),
+                Judged::Lawful => merge_judged(
+                    side,
+                    lim,
+                    segments,
+                    views,
+                    runs,
+                    borrows,
+                    ids,
+                    pool,
+                    writer,
+                    compactor,
+                    out_segments,
+                    out_views,
+                    out_runs,
+                    out_pool,
+                ),
+            }
+        }
     }
 }
 
@@ -242,33 +255,24 @@ pub fn merge_segments_from_writer(
     out_runs: &mut [u64],
     out_pool: &mut [u8],
 ) -> Merged
-    ensures { λ r. ⌜ record { answer = r; out = record { segments = now («out_segments» .exit); views = now («out_views» .exit); runs = now («out_runs» .exit); pool = now («out_pool» .exit) } } ≡ fromWriterOf lim (record { segments = now (segments .entry); views = now (views .entry); runs = now (runs .entry); borrows = now (borrows .entry); ids = now (ids .entry); pool = now (pool .entry) }) writer compactor (record { segments = now («out_segments» .entry); views = now («out_views» .entry); runs = now («out_runs» .entry); pool = now («out_pool» .entry) }) ⌝ }
+    ensures { λ r. ⌜ record { answer = r; out = record { segments = now («out_segments» .exit); views = now («out_views» .exit); runs = now («out_runs» .exit); pool = now («out_pool» .exit) } } ≡ mergeOf Writer lim (record { segments = now (segments .entry); views = now (views .entry); runs = now (runs .entry); borrows = now (borrows .entry); ids = now (ids .entry); pool = now (pool .entry) }) writer compactor (record { segments = now («out_segments» .entry); views = now («out_views» .entry); runs = now («out_runs» .entry); pool = now («out_pool» .entry) }) ⌝ }
 {
-    let a = lawful(lim, segments, views, runs, borrows, ids, pool, writer);
-    match a {
-        Judged::Breaks(rule) => Merged::Refused(Refusal::Unlawful(rule)),
-        Judged::Lawful => {
-            let b = lawful(lim, segments, views, runs, borrows, ids, pool, compactor);
-            match b {
-                Judged::Breaks(rule) => Merged::Refused(Refusal::Unlawful(rule)),
-                Judged::Lawful => merge_segments_from_writer_judged(
-                    lim,
-                    segments,
-                    views,
-                    runs,
-                    borrows,
-                    ids,
-                    pool,
-                    writer,
-                    compactor,
-                    out_segments,
-                    out_views,
-                    out_runs,
-                    out_pool,
-                ),
-            }
-        }
-    }
+    merge_segments(
+        Side::Writer,
+        lim,
+        segments,
+        views,
+        runs,
+        borrows,
+        ids,
+        pool,
+        writer,
+        compactor,
+        out_segments,
+        out_views,
+        out_runs,
+        out_pool,
+    )
 }
 
 // The prefixes of either side, merged, without those whose result is empty, or nothing changed.
@@ -287,31 +291,22 @@ pub fn merge_segments_from_compactor(
     out_runs: &mut [u64],
     out_pool: &mut [u8],
 ) -> Merged
-    ensures { λ r. ⌜ record { answer = r; out = record { segments = now («out_segments» .exit); views = now («out_views» .exit); runs = now («out_runs» .exit); pool = now («out_pool» .exit) } } ≡ fromCompactorOf lim (record { segments = now (segments .entry); views = now (views .entry); runs = now (runs .entry); borrows = now (borrows .entry); ids = now (ids .entry); pool = now (pool .entry) }) writer compactor (record { segments = now («out_segments» .entry); views = now («out_views» .entry); runs = now («out_runs» .entry); pool = now («out_pool» .entry) }) ⌝ }
+    ensures { λ r. ⌜ record { answer = r; out = record { segments = now («out_segments» .exit); views = now («out_views» .exit); runs = now («out_runs» .exit); pool = now («out_pool» .exit) } } ≡ mergeOf Compactor lim (record { segments = now (segments .entry); views = now (views .entry); runs = now (runs .entry); borrows = now (borrows .entry); ids = now (ids .entry); pool = now (pool .entry) }) writer compactor (record { segments = now («out_segments» .entry); views = now («out_views» .entry); runs = now («out_runs» .entry); pool = now («out_pool» .entry) }) ⌝ }
 {
-    let a = lawful(lim, segments, views, runs, borrows, ids, pool, writer);
-    match a {
-        Judged::Breaks(rule) => Merged::Refused(Refusal::Unlawful(rule)),
-        Judged::Lawful => {
-            let b = lawful(lim, segments, views, runs, borrows, ids, pool, compactor);
-            match b {
-                Judged::Breaks(rule) => Merged::Refused(Refusal::Unlawful(rule)),
-                Judged::Lawful => merge_segments_from_compactor_judged(
-                    lim,
-                    segments,
-                    views,
-                    runs,
-                    borrows,
-                    ids,
-                    pool,
-                    writer,
-                    compactor,
-                    out_segments,
-                    out_views,
-                    out_runs,
-                    out_pool,
-                ),
-            }
-        }
-    }
+    merge_segments(
+        Side::Compactor,
+        lim,
+        segments,
+        views,
+        runs,
+        borrows,
+        ids,
+        pool,
+        writer,
+        compactor,
+        out_segments,
+        out_views,
+        out_runs,
+        out_pool,
+    )
 }

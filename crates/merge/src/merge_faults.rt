@@ -1,16 +1,18 @@
 // Refusals 6 and 7: data that only the compactor has, and kept prefixes that nest.
+use crate::Fault;
 use crate::Found;
 use crate::Keep;
 use crate::MergeStep;
 use crate::Nest;
 use crate::Only;
-use crate::Source;
+use crate::Side;
 use crate::merge_steps::advance;
 use crate::merge_steps::is_empty_tree;
 use crate::merge_steps::merge_step;
 use crate::merge_steps::next_kept;
 use keys::begins;
 use keys::part;
+use records::Refusal;
 use tables::Window;
 use tables::held;
 ghost use mathlib.Core.Path.{_≡_};
@@ -21,7 +23,7 @@ ghost use Rattle.records.specs.Decode.{segmentsIn};
 ghost use Rattle.measure.specs.Tests.{chain};
 ghost use Rattle.segments.specs.Prefixes.{prefixes, prefixesIn};
 ghost use Rattle.merge.specs.Merge.{fromCompactor};
-ghost use Rattle.merge.specs.Finds.{dataStep, onlyOf, firstOnly, firstNest, nestStep, nestCount, nestFound};
+ghost use Rattle.merge.specs.Finds.{faultOf, dataStep, onlyOf, firstOnly, firstNest, nestStep, nestCount, nestFound};
 
 fn has_data(views: &[u64], runs: &[u64], step: MergeStep) -> bool
     ensures { λ r. ⌜ r ≡ dataStep (now (views .entry)) (now (runs .entry)) step ⌝ }
@@ -61,7 +63,7 @@ fn next_only(
 }
 
 // The first of the compactor's segments with data whose prefix the writer has not.
-pub fn find_only(
+fn find_only(
     segments: &[u64],
     runs: &[u64],
     views: &[u64],
@@ -121,7 +123,7 @@ fn nest_found(nest: Nest) -> Found
 }
 
 // The first of the segments that merge from compactor keeps whose prefix begins the next.
-pub fn find_nest(
+fn find_nest(
     segments: &[u64],
     runs: &[u64],
     views: &[u64],
@@ -139,11 +141,36 @@ pub fn find_nest(
     let mut i = 0;
     let mut j = 0;
     while i + j < end {
-        let s = next_kept(Source::Compactor, segments, views, runs, pool, w, c, i, j);
+        let s = next_kept(Side::Compactor, segments, views, runs, pool, w, c, i, j);
         let keep = s.keep;
         nest = nest_step(pool, nest, keep);
         i = s.i;
         j = s.j;
     }
     nest_found(nest)
+}
+
+// The refusal that is a merge's own: 6 from the writer's manifest, 7 from the compactor's.
+pub fn own_fault(
+    side: Side,
+    segments: &[u64],
+    views: &[u64],
+    runs: &[u64],
+    pool: &[u8],
+    w: Window,
+    c: Window,
+) -> Fault
+    requires { ⌜ (chain lessOf (prefixesIn (now segments) (now pool) w) ≡ true) × (chain lessOf (prefixesIn (now segments) (now pool) c) ≡ true) ⌝ }
+    ensures { λ r. ⌜ r ≡ faultOf side (segmentsIn (now (segments .entry)) (now (runs .entry)) (now (views .entry)) (now (pool .entry)) w) (segmentsIn (now (segments .entry)) (now (runs .entry)) (now (views .entry)) (now (pool .entry)) c) ⌝ }
+{
+    match side {
+        Side::Writer => match find_only(segments, runs, views, pool, w, c) {
+            Found::At(k) => Fault::Is(Refusal::CompactorOnly(k)),
+            Found::Nowhere => Fault::Nothing,
+        },
+        Side::Compactor => match find_nest(segments, runs, views, pool, w, c) {
+            Found::At(k) => Fault::Is(Refusal::KeptNest(k)),
+            Found::Nowhere => Fault::Nothing,
+        },
+    }
 }

@@ -1,6 +1,6 @@
 // The result, measured and laid out.
 use crate::Keep;
-use crate::Source;
+use crate::Side;
 use crate::merge_steps::next_kept;
 use emit::put_segment;
 use measure::Measured;
@@ -50,7 +50,7 @@ fn fill_kept(lim: Limits, views: &[u64], runs: &[u64], n: usize, keep: Keep, c: 
 
 // What the merged segments fill, where that is within the limits.
 pub fn measure_merged(
-    source: Source,
+    side: Side,
     lim: Limits,
     segments: &[u64],
     runs: &[u64],
@@ -61,7 +61,7 @@ pub fn measure_merged(
 ) -> Measured
     requires { ⌜ (chain lessOf (prefixesIn (now segments) (now pool) w) ≡ true) × (chain lessOf (prefixesIn (now segments) (now pool) c) ≡ true) ⌝ }
     requires { ⌜ (allOf (rowKept lim (now views) (now runs) (now pool)) (rowsIn (now segments) w) ≡ true) × (allOf (rowKept lim (now views) (now runs) (now pool)) (rowsIn (now segments) c) ≡ true) ⌝ }
-    ensures { λ r. ⌜ r ≡ listMeasured lim (mergedFrom source (segmentsIn (now (segments .entry)) (now (runs .entry)) (now (views .entry)) (now (pool .entry)) w) (segmentsIn (now (segments .entry)) (now (runs .entry)) (now (views .entry)) (now (pool .entry)) c)) ⌝ }
+    ensures { λ r. ⌜ r ≡ listMeasured lim (mergedFrom side (segmentsIn (now (segments .entry)) (now (runs .entry)) (now (views .entry)) (now (pool .entry)) w) (segmentsIn (now (segments .entry)) (now (runs .entry)) (now (views .entry)) (now (pool .entry)) c)) ⌝ }
 {
     let n = held(w, segments.len() / 12);
     let m = held(c, segments.len() / 12);
@@ -77,7 +77,7 @@ pub fn measure_merged(
     let mut i = 0;
     let mut j = 0;
     while i + j < end {
-        let s = next_kept(source, segments, views, runs, pool, w, c, i, j);
+        let s = next_kept(side, segments, views, runs, pool, w, c, i, j);
         let keep = s.keep;
         let u = fill_kept(lim, views, runs, pool.len(), keep, to);
         let Measured::Fills(past) = u else {
@@ -132,7 +132,7 @@ fn put_kept(
 
 // Lays the merged segments out at the front of the tables.
 pub fn put_merged(
-    source: Source,
+    side: Side,
     segments: &[u64],
     runs: &[u64],
     views: &[u64],
@@ -145,15 +145,15 @@ pub fn put_merged(
     out_pool: &mut [u8],
 ) -> Fill
     requires { ⌜ (chain lessOf (prefixesIn (now segments) (now pool) w) ≡ true) × (chain lessOf (prefixesIn (now segments) (now pool) c) ≡ true) ⌝ }
-    requires { ⌜ sum segmentFill (mergedFrom source (segmentsIn (now segments) (now runs) (now views) (now pool) w) (segmentsIn (now segments) (now runs) (now views) (now pool) c)) .segments * 12 ≤ length (now «out_segments») ⌝ }
-    requires { ⌜ sum segmentFill (mergedFrom source (segmentsIn (now segments) (now runs) (now views) (now pool) w) (segmentsIn (now segments) (now runs) (now views) (now pool) c)) .runs * 3 ≤ length (now «out_runs») ⌝ }
-    requires { ⌜ sum segmentFill (mergedFrom source (segmentsIn (now segments) (now runs) (now views) (now pool) w) (segmentsIn (now segments) (now runs) (now views) (now pool) c)) .views * 16 ≤ length (now «out_views») ⌝ }
-    requires { ⌜ sum segmentFill (mergedFrom source (segmentsIn (now segments) (now runs) (now views) (now pool) w) (segmentsIn (now segments) (now runs) (now views) (now pool) c)) .bytes ≤ length (now «out_pool») ⌝ }
-    ensures { λ q. ⌜ q ≡ sum segmentFill (mergedFrom source (segmentsIn (now (segments .entry)) (now (runs .entry)) (now (views .entry)) (now (pool .entry)) w) (segmentsIn (now (segments .entry)) (now (runs .entry)) (now (views .entry)) (now (pool .entry)) c)) ⌝ }
-    ensures { λ _. ⌜ now («out_segments» .exit) ≡ over (now («out_segments» .entry)) (segmentsLaid empty (mergedFrom source (segmentsIn (now (segments .entry)) (now (runs .entry)) (now (views .entry)) (now (pool .entry)) w) (segmentsIn (now (segments .entry)) (now (runs .entry)) (now (views .entry)) (now (pool .entry)) c))) ⌝ }
-    ensures { λ _. ⌜ now («out_runs» .exit) ≡ over (now («out_runs» .entry)) (segmentsRunsLaid empty (mergedFrom source (segmentsIn (now (segments .entry)) (now (runs .entry)) (now (views .entry)) (now (pool .entry)) w) (segmentsIn (now (segments .entry)) (now (runs .entry)) (now (views .entry)) (now (pool .entry)) c))) ⌝ }
-    ensures { λ _. ⌜ now («out_views» .exit) ≡ over (now («out_views» .entry)) (segmentsViewsLaid empty (mergedFrom source (segmentsIn (now (segments .entry)) (now (runs .entry)) (now (views .entry)) (now (pool .entry)) w) (segmentsIn (now (segments .entry)) (now (runs .entry)) (now (views .entry)) (now (pool .entry)) c))) ⌝ }
-    ensures { λ _. ⌜ now («out_pool» .exit) ≡ over (now («out_pool» .entry)) (joined segmentBytes (mergedFrom source (segmentsIn (now (segments .entry)) (now (runs .entry)) (now (views .entry)) (now (pool .entry)) w) (segmentsIn (now (segments .entry)) (now (runs .entry)) (now (views .entry)) (now (pool .entry)) c))) ⌝ }
+    requires { ⌜ sum segmentFill (mergedFrom side (segmentsIn (now segments) (now runs) (now views) (now pool) w) (segmentsIn (now segments) (now runs) (now views) (now pool) c)) .segments * 12 ≤ length (now «out_segments») ⌝ }
+    requires { ⌜ sum segmentFill (mergedFrom side (segmentsIn (now segments) (now runs) (now views) (now pool) w) (segmentsIn (now segments) (now runs) (now views) (now pool) c)) .runs * 3 ≤ length (now «out_runs») ⌝ }
+    requires { ⌜ sum segmentFill (mergedFrom side (segmentsIn (now segments) (now runs) (now views) (now pool) w) (segmentsIn (now segments) (now runs) (now views) (now pool) c)) .views * 16 ≤ length (now «out_views») ⌝ }
+    requires { ⌜ sum segmentFill (mergedFrom side (segmentsIn (now segments) (now runs) (now views) (now pool) w) (segmentsIn (now segments) (now runs) (now views) (now pool) c)) .bytes ≤ length (now «out_pool») ⌝ }
+    ensures { λ q. ⌜ q ≡ sum segmentFill (mergedFrom side (segmentsIn (now (segments .entry)) (now (runs .entry)) (now (views .entry)) (now (pool .entry)) w) (segmentsIn (now (segments .entry)) (now (runs .entry)) (now (views .entry)) (now (pool .entry)) c)) ⌝ }
+    ensures { λ _. ⌜ now («out_segments» .exit) ≡ over (now («out_segments» .entry)) (segmentsLaid empty (mergedFrom side (segmentsIn (now (segments .entry)) (now (runs .entry)) (now (views .entry)) (now (pool .entry)) w) (segmentsIn (now (segments .entry)) (now (runs .entry)) (now (views .entry)) (now (pool .entry)) c))) ⌝ }
+    ensures { λ _. ⌜ now («out_runs» .exit) ≡ over (now («out_runs» .entry)) (segmentsRunsLaid empty (mergedFrom side (segmentsIn (now (segments .entry)) (now (runs .entry)) (now (views .entry)) (now (pool .entry)) w) (segmentsIn (now (segments .entry)) (now (runs .entry)) (now (views .entry)) (now (pool .entry)) c))) ⌝ }
+    ensures { λ _. ⌜ now («out_views» .exit) ≡ over (now («out_views» .entry)) (segmentsViewsLaid empty (mergedFrom side (segmentsIn (now (segments .entry)) (now (runs .entry)) (now (views .entry)) (now (pool .entry)) w) (segmentsIn (now (segments .entry)) (now (runs .entry)) (now (views .entry)) (now (pool .entry)) c))) ⌝ }
+    ensures { λ _. ⌜ now («out_pool» .exit) ≡ over (now («out_pool» .entry)) (joined segmentBytes (mergedFrom side (segmentsIn (now (segments .entry)) (now (runs .entry)) (now (views .entry)) (now (pool .entry)) w) (segmentsIn (now (segments .entry)) (now (runs .entry)) (now (views .entry)) (now (pool .entry)) c))) ⌝ }
 {
     let n = held(w, segments.len() / 12);
     let m = held(c, segments.len() / 12);
@@ -169,7 +169,7 @@ pub fn put_merged(
     let mut i = 0;
     let mut j = 0;
     while i + j < end {
-        let s = next_kept(source, segments, views, runs, pool, w, c, i, j);
+        let s = next_kept(side, segments, views, runs, pool, w, c, i, j);
         let keep = s.keep;
         to = put_kept(
             keep,

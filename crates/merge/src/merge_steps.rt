@@ -3,7 +3,7 @@ use crate::Cursors;
 use crate::Keep;
 use crate::MergeStep;
 use crate::Next;
-use crate::Source;
+use crate::Side;
 use ids::SstMark;
 use ids::ViewMark;
 use ids::marks_sst;
@@ -221,17 +221,17 @@ fn compactor_keep(views: &[u64], runs: &[u64], step: MergeStep) -> Keep
     }
 }
 
-fn keep_by(source: Source, views: &[u64], runs: &[u64], step: MergeStep) -> Keep
-    ensures { λ r. ⌜ r ≡ keepBy source (now (views .entry)) (now (runs .entry)) step ⌝ }
+fn keep_by(side: Side, views: &[u64], runs: &[u64], step: MergeStep) -> Keep
+    ensures { λ r. ⌜ r ≡ keepBy side (now (views .entry)) (now (runs .entry)) step ⌝ }
 {
-    match source {
-        Source::Writer => writer_keep(views, step),
-        Source::Compactor => compactor_keep(views, runs, step),
+    match side {
+        Side::Writer => writer_keep(views, step),
+        Side::Compactor => compactor_keep(views, runs, step),
     }
 }
 
 pub fn next_kept(
-    source: Source,
+    side: Side,
     segments: &[u64],
     views: &[u64],
     runs: &[u64],
@@ -242,10 +242,10 @@ pub fn next_kept(
     j: usize,
 ) -> Next
     requires { ⌜ (i + 1 < 2 ^ 64) × (j + 1 < 2 ^ 64) ⌝ }
-    ensures { λ r. ⌜ r ≡ nextOf source (now (segments .entry)) (now (views .entry)) (now (runs .entry)) (now (pool .entry)) w c i j ⌝ }
+    ensures { λ r. ⌜ r ≡ nextOf side (now (segments .entry)) (now (views .entry)) (now (runs .entry)) (now (pool .entry)) w c i j ⌝ }
 {
     let step = merge_step(segments, pool, w, c, i, j);
-    let keep = keep_by(source, views, runs, step);
+    let keep = keep_by(side, views, runs, step);
     let past = advance(step, i, j);
     Next {
         keep,

@@ -30,7 +30,7 @@ use Rattle.records.proofs.Cursor.{row-front, layout-front}
 use Rattle.records.proofs.Laid.{Table, segments, views, runs, borrows, ids, pool, at, at-empty}
 use Rattle.records.proofs.Columns.{keys-fill, tree-fill, segments-fill, borrows-fill}
 use Rattle.emit.proofs.Columns.{ids-laid-long}
-use Rattle.measure.specs.Within.{treeViews, allViews}
+use Rattle.measure.specs.Within.{treeViews, allViews, idsUsed}
 use Rattle.measure.specs.Walk.{addOf}
 use Rattle.measure.specs.declared.Measured.{Measured}
 use Rattle.measure.specs.declared.Measured.the-variants.{Broken, Fills}
@@ -46,7 +46,6 @@ use Rattle.copy.proofs.Manifest.{segments-count}
 use Rattle.segments.specs.Prefixes.{prefixesIn}
 use Rattle.segments.proofs.Answers.{prefixes-in}
 use Rattle.segments.proofs.Demand3.{lawful-keeps}
-use Rattle.project_views.specs.Shown.{idsUsed}
 use Rattle.project_views.proofs.Summed.{added-is}
 use Rattle.project_ranges.specs.Config.{Config, isNoop, namesCount, refuses10, place10}
 use Rattle.project_ranges.specs.Own.{ownFault}

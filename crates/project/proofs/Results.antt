@@ -12,14 +12,14 @@ use Rattle.ids.specs.declared.SstId.{SstId}
 use Rattle.records.specs.Model.{View, Tree, Segment, Borrow, Manifest}
 use Rattle.records.specs.New.{newTree}
 use Rattle.measure.specs.Tests.{allOf, chain, pairs}
-use Rattle.measure.specs.Within.{treeViews, treeRuns, allViews, allRuns}
+use Rattle.measure.specs.Within.{treeViews, treeRuns, allViews, allRuns, idsUsed}
 use Rattle.measure.proofs.Lists.{all-append}
 use Rattle.lawful.specs.Law.{l2Of, apartOf, l3Of, viewLawful, l4Of, runLawful, l5Of}
 use Rattle.lawful.proofs.Pairs.{l2-pairs}
 use Rattle.lawful.proofs.Rules.{all-trees}
 use Rattle.segments.proofs.Places.{and-both}
 use Rattle.prune.specs.Prune.{usedOnly, keptBorrow, pruned}
-use Rattle.project_views.specs.Shown.{treeShown, idsUsed}
+use Rattle.project_views.specs.Shown.{treeShown}
 use Rattle.project_views.proofs.Results.{shown-l4, shown-l5}
 use Rattle.project_ranges.specs.Config.{Config, isNoop}
 use Rattle.project_ranges.specs.Action.{Action, drop, project, pass, actionOf}

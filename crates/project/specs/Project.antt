@@ -2,9 +2,8 @@
 use mathlib.Core.List.{List, []}
 use Rattle.keys.specs.Pick.{pick}
 use Rattle.records.specs.Model.{Tree, Segment, Borrow, Manifest}
-use Rattle.measure.specs.Within.{allViews}
+use Rattle.measure.specs.Within.{allViews, idsUsed}
 use Rattle.prune.specs.Prune.{pruned}
-use Rattle.project_views.specs.Shown.{idsUsed}
 use Rattle.project_ranges.specs.Config.{Config, isNoop}
 use Rattle.project_ranges.specs.Action.{actionOf}
 use Rattle.project_lay.specs.After.{treeAfter, segmentsAfter}

@@ -27,10 +27,10 @@ use Rattle.records.proofs.Sums.{plus-empty, empty-plus, plus-assoc}
 use Rattle.records.proofs.Laid.{ids}
 use Rattle.emit.proofs.Laid.{put-then}
 use Rattle.emit.proofs.Columns.{ids-laid-long}
-use Rattle.measure.specs.Within.{runViews, treeViews}
+use Rattle.measure.specs.Within.{runViews, treeViews, idsUsed}
 use Rattle.merge.specs.Tree.{noViews, noRuns, isEmpty}
 use Rattle.project_views.specs.Reach.{reachOf}
-use Rattle.project_views.specs.Shown.{treeShown, idsUsed}
+use Rattle.project_views.specs.Shown.{treeShown}
 use Rattle.project_views.specs.declared.Reach.{Reach}
 use Rattle.project_views.proofs.Many.{all}
 use Rattle.project_views.proofs.Ids.{LaidIds, used-append}

@@ -10,7 +10,7 @@ use lib.Seq.{take-suc, take-all, length-take-le, take-at, getD-at}
 use borrow.Author.Tests.{le-leb}
 use Rattle.keys.specs.Pick.{pick}
 use Rattle.keys.specs.Says.{Says, holds, fails}
-use Rattle.keys.specs.Key.{orderOf, isLess}
+use Rattle.keys.specs.Key.{orderOf, isLess, isEqual}
 use Rattle.keys.specs.Prefix.{Top, nowhere, at, underOf, keepBefore, withoutFF, addOne, lastUp, after, leftOf, successorOf, grownTop}
 use Rattle.keys.specs.Range.{Edge, unbounded, included, excluded}
 use Rattle.keys.specs.Meet as order
@@ -29,7 +29,7 @@ use Rattle.keys.proofs.Sorts.{turn, order-turn}
 use Rattle.keys.proofs.Grows.{successor-after}
 use Rattle.records.specs.Decode.{bytesIn}
 use Rattle.records.specs.declared.Place.{Place}
-use Rattle.segments.specs.Lookup.{isEqual, sameOf}
+use Rattle.segments.specs.Lookup.{sameOf}
 use Rattle.tables.proofs.Holds.{pick-same}
 use Rattle.project_views.specs.Reach.{topEdge, untilOf, reachOf}
 use Rattle.project_views.specs.declared.Until.{Until}

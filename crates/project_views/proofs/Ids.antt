@@ -25,8 +25,8 @@ use Rattle.records.proofs.Laid.{Column, at, ids}
 use Rattle.records.proofs.Columns.{tree-fill, idFill, ids-fill}
 use Rattle.emit.proofs.Laid.{plain, put-then, Walk, Grown, walk-none, walk-more, walk-all, grown-none, grown-room, grown-more, joined-all}
 use Rattle.emit.proofs.Columns.{ids-laid-long}
-use Rattle.measure.specs.Within.{runViews, treeViews}
-use Rattle.project_views.specs.Shown.{keptRun, runShown, runsShown, idsUsed}
+use Rattle.measure.specs.Within.{runViews, treeViews, idsUsed}
+use Rattle.project_views.specs.Shown.{keptRun, runShown, runsShown}
 use Rattle.project_views.specs.Steps.{leftIn, idsLeft, viewsShown}
 use Rattle.project_views.specs.declared.Reach.{Reach}
 use Rattle.project_views.specs.declared.Kept.{Kept}

@@ -4,7 +4,6 @@ use mathlib.Core.List.{List, [], _∷_, _++_}
 use Rattle.keys.specs.Pick.{pick}
 use Rattle.keys.specs.Range.{Edges, emptyOf}
 use Rattle.keys.specs.Meet.{meetOf}
-use Rattle.ids.specs.declared.SstId.{SstId}
 use Rattle.records.specs.Model.{View, only, Run, Tree, physical, span}
 
 -- "is empty when no key is in it"
@@ -48,8 +47,3 @@ runsShown r (x ∷ xs) = keptRun x (runShown r (x .views)) ++ runsShown r xs
 -- a tree, its watermarks kept: "projecting keeps them"
 unfoldable pub treeShown : Edges → Tree → Tree
 treeShown r t = record { viewMark = t .viewMark; sstMark = t .sstMark; l0 = l0Shown r (t .l0); runs = runsShown r (t .runs) }
-
--- the SST ids of some views, in order, repeats kept: by these "borrowed ids not used by any view go"
-abbrev pub idsUsed : List View → List SstId
-idsUsed [] = []
-idsUsed (v ∷ vs) = v .sst ∷ idsUsed vs

@@ -17,9 +17,9 @@ ghost use Rattle.records.specs.Row.{viewAt, runAt};
 ghost use Rattle.records.specs.Decode.{viewIn, viewsIn, runIn, runsIn, treeIn};
 ghost use Rattle.records.specs.Fill.{plus, ids};
 ghost use Rattle.records.specs.Layout.{idsLaid};
-ghost use Rattle.measure.specs.Within.{runViews, treeViews};
+ghost use Rattle.measure.specs.Within.{runViews, treeViews, idsUsed};
 ghost use Rattle.project_views.specs.Reach.{reachOf};
-ghost use Rattle.project_views.specs.Shown.{runShown, runsShown, treeShown, idsUsed};
+ghost use Rattle.project_views.specs.Shown.{runShown, runsShown, treeShown};
 ghost use Rattle.project_views.specs.Steps.{idsLeft, pieceOf, viewsShown};
 
 // Appends that of a view.

@@ -23,7 +23,8 @@ ghost use Prim.Native.Nat.{_+_, _*_, _/_, _≤_, _<_};
 ghost use lib.ListN.{length};
 ghost use Rattle.records.specs.Row.{placeAt, windowAt, boundOf, boundAt, lastAt, visibleAt, viewMarkAt, sstMarkAt, finalAt, viewAt, runAt, treeAt, segmentAt, borrowAt, idAt};
 
-fn place_at(t: &[u64], b: usize) -> Place
+// inner
+pub fn place_at(t: &[u64], b: usize) -> Place
     requires { ⌜ b + 2 ≤ length (now t) ⌝ }
     ensures { λ r. ⌜ r ≡ placeAt (now (t .entry)) b ⌝ }
 {
@@ -33,7 +34,8 @@ fn place_at(t: &[u64], b: usize) -> Place
     }
 }
 
-fn window_at(t: &[u64], b: usize) -> Window
+// inner
+pub fn window_at(t: &[u64], b: usize) -> Window
     requires { ⌜ b + 2 ≤ length (now t) ⌝ }
     ensures { λ r. ⌜ r ≡ windowAt (now (t .entry)) b ⌝ }
 {
@@ -144,7 +146,8 @@ pub fn run_at(t: &[u64], i: usize) -> RunRow
     }
 }
 
-fn tree_at(t: &[u64], b: usize) -> TreeRow
+// inner
+pub fn tree_at(t: &[u64], b: usize) -> TreeRow
     requires { ⌜ b + 10 ≤ length (now t) ⌝ }
     ensures { λ r. ⌜ r ≡ treeAt (now (t .entry)) b ⌝ }
 {

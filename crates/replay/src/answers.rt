@@ -1,6 +1,6 @@
 // Answers, in the words of the line protocol.
 use crate::parts::at_most;
-use exports::Answer;
+use exports_forms::Answer;
 use keys::part;
 use libc::STDOUT_FILENO;
 

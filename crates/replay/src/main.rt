@@ -9,7 +9,7 @@ mod parts;
 
 use answers::put;
 use answers::put_answer;
-use exports::Answer;
+use exports_forms::Answer;
 use libc::STDIN_FILENO;
 use parts::asked_of;
 use parts::fifth;

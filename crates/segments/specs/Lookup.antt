@@ -1,13 +1,11 @@
 -- Lookup: the tree of a prefix.
 use Prim.Native.Nat.{ℕ}
-use mathlib.Core.Bool.{Bool, true, false, not}
+use mathlib.Core.Bool.{Bool, not}
 use mathlib.Core.List.{List, [], _∷_}
 use lib.Dec.{ltb}
 use lib.ListN.{length}
 use Rattle.keys.specs.Pick.{pick}
-use Rattle.keys.specs.Key.{orderOf}
-use Rattle.keys.specs.declared.Order.{Order}
-use Rattle.keys.specs.declared.Order.the-variants.{Less, Equal, Greater}
+use Rattle.keys.specs.Key.{orderOf, isEqual}
 use Rattle.records.specs.Decode.{Lent, manifestIn}
 use Rattle.records.specs.Refusals.{refusal}
 use Rattle.records.specs.declared.Limits.{Limits}
@@ -17,11 +15,6 @@ use Rattle.segments.specs.Prefixes.{prefixes, leading}
 use Rattle.segments.specs.Refuses.{prefixOver, refuses1, firstBroken}
 use Rattle.segments.specs.declared.Looked.{Looked}
 use Rattle.segments.specs.declared.Looked.the-variants.{Unsegmented, Segment, Absent, Refused}
-
-abbrev pub isEqual : Order → Bool
-isEqual Less = false
-isEqual Equal = true
-isEqual Greater = false
 
 -- two prefixes are the same bytes
 abbrev pub sameOf : List ℕ → List ℕ → Bool

@@ -12,13 +12,13 @@ use Rattle.tables.proofs.Joined.{upTo-length}
 use Rattle.ids.specs.declared.Uuid.{Uuid}
 use Rattle.records.specs.Model.{Tree, Borrow, none, Manifest}
 use Rattle.records.specs.Fill.{empty, plus, sum, treeFill, manifestFill}
-use Rattle.records.specs.Layout.{treeRow, treeBytes, treeViewsLaid, treeRunsLaid, segmentsViewsLaid, segmentsRunsLaid, borrowsLaid, borrowIds, borrowPath, pastName, manifestRow, layout}
+use Rattle.records.specs.Layout.{treeRow, treeBytes, treeViewsLaid, treeRunsLaid, segmentsLaid, segmentsViewsLaid, segmentsRunsLaid, borrowsLaid, borrowIds, borrowPath, pastName, manifestRow, layout}
 use Rattle.records.specs.declared.Fill.{Fill}
 use Rattle.records.specs.declared.Name.the-variants.{Absent}
 use Rattle.records.specs.declared.ManifestRow.{ManifestRow}
 use Rattle.records.specs.declared.TreeRow.{TreeRow}
 use Rattle.records.proofs.Sums.{fill-same}
-use Rattle.records.proofs.Columns.{tree-fill, tree-bytes-long}
+use Rattle.records.proofs.Columns.{borrows-fill, tree-fill, tree-bytes-long}
 use Rattle.measure.specs.Walk.{addOf}
 use Rattle.measure.specs.declared.Measured.{Measured}
 use Rattle.measure.specs.declared.Measured.the-variants.{Broken, Fills}
@@ -40,6 +40,10 @@ pub members-long : (groups work pool : List ℕ) (n : ℕ) → length (membersIn
 unfolding membersIn
 members-long groups work pool n = upTo-length (memberAt groups work pool) n
 
+-- borrows have no runs
+pub lent-runs : (fresh : List Uuid) (ms : List Member) → sum memberFill ms .runs ≡ 0
+lent-runs fresh ms = rw (lent-fill fresh 0 ms) (let h = ap (λ (f : Fill). f .runs) (borrows-fill (lentFrom fresh 0 ms)) in omega (arith, h))
+
 module _ (t : Tree) (ms : List Member) (fresh : List Uuid) (seq : ℕ) where
   abbrev bs : List Borrow
   bs = lentFrom fresh 0 ms
@@ -51,6 +55,14 @@ module _ (t : Tree) (ms : List Member) (fresh : List Uuid) (seq : ℕ) where
   pub plain-fill : manifestFill result ≡ plus (treeFill t) (sum memberFill ms)
   unfolding manifestFill numberedSegments
   plain-fill = rw (numbered-tree-fill (length (t .runs) + 0) t, lent-fill fresh 0 ms) (fill-same (omega arith))
+
+  pub plain-counts : plus (treeFill t) (sum memberFill ms) .runs ≡ treeFill t .runs
+  plain-counts = omega (arith, lent-runs fresh ms)
+
+  -- it has no segments
+  pub plain-segments : (d : List ℕ) → d ≡ over d (layout result .segments)
+  unfolding layout segmentsLaid numberedSegments
+  plain-segments d = refl
 
   module _ (left : ℕ) (k : left ≡ treeFill t .runs) (c : Fill) (e : c ≡ empty) where
     numbers : left ≡ length (t .runs) + 0

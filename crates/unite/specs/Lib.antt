@@ -1,2 +1,3 @@
 pub mod United
 pub mod Answer
+pub mod Steps

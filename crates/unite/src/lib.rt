@@ -16,9 +16,8 @@ ghost use mathlib.Core.Path.{_≡_};
 ghost use Prim.Native.Nat.{_+_, _/_, _*_, _≤_};
 ghost use lib.ListN.{length};
 ghost use Rattle.borrows.specs.Clone.{uuidsOf};
-ghost use mathlib.Core.Bool.{true, false};
+ghost use mathlib.Core.Bool.{true};
 ghost use mathlib.Core.List.{[]};
-ghost use lib.IntN.{negsuc};
 ghost use Rattle.tables.specs.Layout.{over};
 ghost use Rattle.records.specs.Model.{none};
 ghost use Rattle.records.specs.Fill.{empty, plus, sum, treeFill};
@@ -30,6 +29,7 @@ ghost use Rattle.unite_groups.specs.Chosen.{lentFrom, memberFill};
 ghost use Rattle.unite_groups.specs.Rows.{membersIn};
 ghost use Rattle.unite.specs.United.{assembled};
 ghost use Rattle.unite.specs.Answer.{unionTo};
+ghost use Rattle.unite.specs.Steps.{unitedRow};
 
 // The union's place in the output tables, or why there is none.
 pub enum United {
@@ -39,7 +39,8 @@ pub enum United {
 
 // ---- without an extractor
 
-fn no_fill() -> Fill
+// inner
+pub fn no_fill() -> Fill
     ensures { λ r. ⌜ r ≡ empty ⌝ }
 {
     Fill {
@@ -79,8 +80,15 @@ pub fn measure_plain(
 }
 
 // The row of a union whose records were laid at the front of the tables: all but these is the new manifest's.
-fn united_row(tree: TreeRow, segments: usize, name: Name, borrows: usize, seq: u64) -> ManifestRow
-    ensures { λ r. ⌜ r ≡ record { initialized = true; tree = tree; segments = record { first = 0; count = segments }; «segment_extractor_name» = name; «next_wal_sst_id» = 1; «replay_after_wal_id» = 0; «last_l0_clock_tick» = negsuc 9223372036854775807; «last_l0_seq» = seq; «recent_snapshot_min_seq» = 0; «external_dbs» = record { first = 0; count = borrows }; «writer_epoch» = 0; «compactor_epoch» = 0 } ⌝ }
+// inner
+pub fn united_row(
+    tree: TreeRow,
+    segments: usize,
+    name: Name,
+    borrows: usize,
+    seq: u64,
+) -> ManifestRow
+    ensures { λ r. ⌜ r ≡ unitedRow tree segments name borrows seq ⌝ }
 {
     let s = Window {
         first: 0,

@@ -4,7 +4,7 @@ use mathlib.Core.Path.{_≡_, refl, sym, ap, _∙_}
 use mathlib.Core.Bool.{Bool, true, false, true≢false}
 use mathlib.Core.List.{List, [], _∷_, _++_, append-assoc, append-nil}
 use Rattle.keys.specs.Pick.{pick}
-use Rattle.keys.specs.Key.{orderOf, isLess}
+use Rattle.keys.specs.Key.{orderOf, isLess, isEqual}
 use Rattle.keys.specs.Meet.{orElse}
 use Rattle.keys.specs.declared.Order.{Order}
 use Rattle.keys.specs.declared.Order.the-variants.{Less, Equal, Greater}
@@ -12,7 +12,6 @@ use Rattle.keys.proofs.ByteOrder.{Stand, less, same, more, stand, stand-order, 
 use Rattle.ids.specs.Id.{sstBytes}
 use Rattle.ids.specs.declared.SstId.{SstId}
 use Rattle.ids.specs.declared.Uuid.{Uuid}
-use Rattle.segments.specs.Lookup.{isEqual}
 use Rattle.segments.proofs.Places.{and-both}
 use Rattle.unite_groups.specs.Sets.{byOrder, idSet}
 use Rattle.unite_groups.specs.Groups.{Member, Group, listOrder, keyOrder, alone, joinedBy, groupEntered, groupedFrom, grouped}

@@ -1,22 +1,18 @@
 // The arguments of a union: its sources' rows read and judged, and what all sources say together.
-use ids::SstId;
-use ids::SstMark;
-use ids::ViewId;
-use ids::ViewMark;
 use lawful::Judged;
 use lawful::lawful;
 use records::Limits;
 use records::ManifestRow;
 use records::Name;
 use records::Place;
-use records::TreeRow;
-use tables::Window;
-use tables::ix;
+use records::place_at;
+use records::tree_at;
+use records::window_at;
 ghost use mathlib.Core.Path.{_≡_};
 ghost use mathlib.Core.Bool.{true};
-ghost use Prim.Native.Nat.{_+_, _*_, _≤_, _<_};
+ghost use Prim.Native.Nat.{_+_, _*_, _≤_};
 ghost use lib.ListN.{length};
-ghost use Rattle.records.specs.Row.{at, placeAt, windowAt, viewMarkAt, sstMarkAt, treeAt};
+ghost use Rattle.records.specs.Row.{placeAt};
 ghost use Rattle.measure.specs.Placed.{opened};
 ghost use Rattle.unite_sources.specs.Source.{greater};
 ghost use Rattle.unite_sources.specs.Rows.{manifestAtWord};
@@ -24,87 +20,6 @@ ghost use Rattle.unite_judge.specs.Judging.{pathOver, somePathOver, code
 ghost use Rattle.unite_judge.specs.Words.{greatestAt, nameAt, agreedAt};
 
 // ---- a source's row: 22 words
-
-// Word `k` of the row that begins at word `b`; 0 where the table has none.
-// inner
-pub fn word_at(t: &[u64], b: usize, k: usize) -> u64
-    ensures { λ r. ⌜ r ≡ at (now (t .entry)) (b + k) ⌝ }
-{
-    if b < t.len() {
-        if k < t.len() - b {
-            return t[b + k];
-        }
-    }
-    0
-}
-
-// The window in words `k` and `k + 1`.
-// inner
-pub fn window_in(t: &[u64], b: usize, k: usize) -> Window
-    requires { ⌜ k < 22 ⌝ }
-    ensures { λ r. ⌜ r ≡ windowAt (now (t .entry)) (b + k) ⌝ }
-{
-    Window {
-        first: ix(word_at(t, b, k)),
-        count: ix(word_at(t, b, k + 1)),
-    }
-}
-
-// inner
-pub fn place_at(t: &[u64], b: usize) -> Place
-    requires { ⌜ b + 2 ≤ length (now t) ⌝ }
-    ensures { λ r. ⌜ r ≡ placeAt (now (t .entry)) b ⌝ }
-{
-    Place {
-        at: ix(t[b]),
-        len: ix(t[b + 1]),
-    }
-}
-
-// inner
-pub fn window_at(t: &[u64], b: usize) -> Window
-    requires { ⌜ b + 2 ≤ length (now t) ⌝ }
-    ensures { λ r. ⌜ r ≡ windowAt (now (t .entry)) b ⌝ }
-{
-    Window {
-        first: ix(t[b]),
-        count: ix(t[b + 1]),
-    }
-}
-
-fn view_mark_at(t: &[u64], b: usize) -> ViewMark
-    requires { ⌜ b + 3 ≤ length (now t) ⌝ }
-    ensures { λ r. ⌜ r ≡ viewMarkAt (now (t .entry)) b ⌝ }
-{
-    let id = ViewId(t[b + 1], t[b + 2]);
-    match t[b] {
-        0 => ViewMark::None,
-        _ => ViewMark::Some(id),
-    }
-}
-
-fn sst_mark_at(t: &[u64], b: usize) -> SstMark
-    requires { ⌜ b + 3 ≤ length (now t) ⌝ }
-    ensures { λ r. ⌜ r ≡ sstMarkAt (now (t .entry)) b ⌝ }
-{
-    let id = SstId(t[b + 1], t[b + 2]);
-    match t[b] {
-        0 => SstMark::None,
-        _ => SstMark::Some(id),
-    }
-}
-
-fn tree_at(t: &[u64], b: usize) -> TreeRow
-    requires { ⌜ b + 10 ≤ length (now t) ⌝ }
-    ensures { λ r. ⌜ r ≡ treeAt (now (t .entry)) b ⌝ }
-{
-    TreeRow {
-        view: view_mark_at(t, b),
-        sst: sst_mark_at(t, b + 3),
-        l0: window_at(t, b + 6),
-        compacted: window_at(t, b + 8),
-    }
-}
 
 fn name_at(t: &[u64], b: usize) -> Name
     requires { ⌜ b + 22 ≤ length (now t) ⌝ }

@@ -4,7 +4,7 @@ use mathlib.Core.Path.{_≡_, refl, sym, ap, ap₂, _∙_}
 use mathlib.Core.Bool.{Bool, true, _||_, true≢false}
 use mathlib.Core.List.{List, [], _∷_}
 use lib.Dec.{ltb}
-use Rattle.keys.specs.Key.{orderOf, isLess}
+use Rattle.keys.specs.Key.{orderOf, isLess, isEqual}
 use Rattle.keys.specs.Meet.{orElse}
 use Rattle.keys.specs.declared.Order.{Order}
 use Rattle.keys.specs.declared.Order.the-variants.{Less, Equal, Greater}
@@ -16,7 +16,6 @@ use Rattle.ids.specs.declared.Uuid.{Uuid}
 use Rattle.ids.proofs.Ids.{id-bytes}
 use Rattle.records.specs.Model.{Borrow}
 use Rattle.measure.specs.Tests.{allOf}
-use Rattle.segments.specs.Lookup.{isEqual}
 use Rattle.segments.proofs.Places.{and-both}
 use Rattle.merge.specs.Merge.{someOf}
 use Rattle.unite_groups.specs.Sets.{sstOrder, byOrder, idSet}

@@ -10,12 +10,12 @@ use Rattle.ids.specs.declared.Uuid.{Uuid}
 use Rattle.ids.specs.Names.{namesOf}
 use Rattle.records.specs.Model.{Borrow}
 use Rattle.measure.specs.Tests.{allOf}
-use Rattle.measure.specs.Within.{allViews}
+use Rattle.measure.specs.Within.{allViews, idsUsed}
 use Rattle.measure.proofs.Lists.{and-false, all-append}
 use Rattle.segments.proofs.Places.{and-both}
 use Rattle.merge.specs.Merge.{someOf}
 use Rattle.merge.proofs.Keeping.{both-and}
-use Rattle.borrows.specs.Owned.{isBorrowed, unborrowed, idsUsed, ownedOf}
+use Rattle.borrows.specs.Owned.{isBorrowed, unborrowed, ownedOf}
 use Rattle.unite_groups.specs.Groups.{Member}
 use Rattle.unite_groups.specs.Rows.{borrowMembers, ownedMember}
 use Rattle.unite_groups.proofs.Results.{set-names}

@@ -15,12 +15,12 @@ use Rattle.ids.proofs.Ids.{same-sst}
 use Rattle.records.specs.Model.{View, Segment, Borrow, named}
 use Rattle.records.specs.New.{newTree}
 use Rattle.measure.specs.Tests.{allOf}
-use Rattle.measure.specs.Within.{treeViews, allViews}
+use Rattle.measure.specs.Within.{treeViews, allViews, idsUsed}
 use Rattle.lawful.proofs.Rules.{all-trees}
 use Rattle.segments.proofs.Places.{and-both}
 use Rattle.merge.specs.Merge.{someOf}
 use Rattle.merge.proofs.Keeping.{both-and}
-use Rattle.borrows.specs.Owned.{isBorrowed, unborrowed, idsUsed, ownedBy, ownedOf}
+use Rattle.borrows.specs.Owned.{isBorrowed, unborrowed, ownedBy, ownedOf}
 use Rattle.unite_trees.specs.Joined.{numbered, numberedTree}
 use Rattle.unite_sources.specs.Source.{Source, agreedName}
 use Rattle.unite.specs.United.{borrowsUnited, unitedFrom}

@@ -16,11 +16,11 @@ use Rattle.records.specs.declared.Limits.{Limits}
 use Rattle.records.specs.declared.ManifestRow.{ManifestRow}
 use Rattle.records.specs.declared.TreeRow.{TreeRow}
 use Rattle.measure.specs.Tests.{allOf}
-use Rattle.measure.specs.Within.{runViews, treeViews, allViews}
+use Rattle.measure.specs.Within.{runViews, treeViews, allViews, idsUsed}
 use Rattle.measure.proofs.Lists.{all-append}
 use Rattle.lawful.proofs.Rules.{all-tree, all-trees}
 use Rattle.merge.proofs.Keeping.{both-and}
-use Rattle.borrows.specs.Owned.{idsUsed, ownedOf}
+use Rattle.borrows.specs.Owned.{ownedOf}
 use Rattle.borrows.specs.Clone.{uuidsOf}
 use Rattle.unite_ranges.specs.Arranged.{whats}
 use Rattle.unite_sources.specs.Source.{Source}

@@ -3,14 +3,14 @@ use Prim.Native.Nat.{ℕ, _^_}
 use mathlib.Core.Bool.{Bool, _&&_, _||_}
 use mathlib.Core.List.{List}
 use lib.Dec.{ltb}
+use Rattle.keys.specs.Key.{isEqual}
 use Rattle.ids.specs.declared.SstId.{SstId}
 use Rattle.ids.specs.Names.{namesOf}
 use Rattle.records.specs.Model.{View, Borrow}
 use Rattle.measure.specs.Tests.{allOf}
-use Rattle.measure.specs.Within.{allViews}
-use Rattle.segments.specs.Lookup.{isEqual}
+use Rattle.measure.specs.Within.{allViews, idsUsed}
 use Rattle.merge.specs.Merge.{someOf}
-use Rattle.borrows.specs.Owned.{idsUsed, isBorrowed, ownedOf}
+use Rattle.borrows.specs.Owned.{isBorrowed, ownedOf}
 use Rattle.unite_groups.specs.Sets.{idSet}
 use Rattle.unite_groups.specs.Groups.{Member, keyOrder}
 use Rattle.unite_sources.specs.Source.{Source}

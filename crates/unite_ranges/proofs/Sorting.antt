@@ -5,14 +5,14 @@ use mathlib.Core.Bool.{Bool, true, false}
 use mathlib.Core.List.{List, [], _∷_, _++_, append-nil, append-assoc}
 use native.Mathlib.Omega.{arith}
 use Rattle.keys.specs.Pick.{pick}
-use Rattle.keys.specs.Key.{isLess}
+use Rattle.keys.specs.Key.{isLess, isEqual}
 use Rattle.keys.specs.Range.{Edge}
 use Rattle.keys.specs.Meet.{startOrder}
 use Rattle.keys.specs.declared.Order.{Order}
 use Rattle.keys.specs.declared.Order.the-variants.{Less, Equal, Greater}
 use Rattle.keys.proofs.Sorts.{AtMost, turn, start-self, start-turn, start-trans, start-same}
 use Rattle.unite_ranges.specs.Arranged.{Ranged, entered, arrangedFrom, arranged}
-use Rattle.unite_ranges.specs.Sorted.{Behind, Ascends, isEqual, startingAt, passing}
+use Rattle.unite_ranges.specs.Sorted.{Behind, Ascends, startingAt, passing}
 
 -- ---- the order of starts, by its tests
 

@@ -1,14 +1,12 @@
 -- What "sorted stably by the start" promises, for the theorems about `arranged`.
 use Prim.Native.Nat.{ℕ, suc}
 use mathlib.Core.Path.{_≡_}
-use mathlib.Core.Bool.{Bool, true, false}
+use mathlib.Core.Bool.{Bool, false}
 use mathlib.Core.List.{List, [], _∷_}
 use Rattle.keys.specs.Pick.{pick}
-use Rattle.keys.specs.Key.{isLess}
+use Rattle.keys.specs.Key.{isLess, isEqual}
 use Rattle.keys.specs.Range.{Edge}
 use Rattle.keys.specs.Meet.{startOrder}
-use Rattle.keys.specs.declared.Order.{Order}
-use Rattle.keys.specs.declared.Order.the-variants.{Less, Equal, Greater}
 use Rattle.unite_ranges.specs.Arranged.{Ranged}
 
 -- none of some things starts before s
@@ -20,11 +18,6 @@ pub data Behind {A : Type 0} (s : Edge) : List (Ranged A) → Type 0 where
 pub data Ascends {A : Type 0} : List (Ranged A) → Type 0 where
   none : Ascends []
   more : {x : Ranged A} {xs : List (Ranged A)} → Behind (x .range .start) xs → Ascends xs → Ascends (x ∷ xs)
-
-abbrev pub isEqual : Order → Bool
-isEqual Less = false
-isEqual Equal = true
-isEqual Greater = false
 
 -- stably: those that start at e, in their order
 unfoldable pub startingAt : {A : Type 0} → Edge → List (Ranged A) → List (Ranged A)

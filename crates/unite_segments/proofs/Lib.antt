@@ -1,2 +1,1 @@
 pub mod Prefixed
-pub mod Given

@@ -30,7 +30,7 @@ use Rattle.unite_groups.specs.Groups.{Member}
 use Rattle.unite_groups.specs.Chosen.{lentFrom, memberFill}
 use Rattle.unite_groups.proofs.Lent.{lent-fill}
 use Rattle.unite.specs.United.{segmentRuns}
-use Rattle.unite.proofs.Plain.{lent-long}
+use Rattle.unite.proofs.Plain.{lent-long, lent-runs}
 use Rattle.unite_segments.specs.Steps.{namedUnion, restFill, namedFill}
 
 -- ---- counts
@@ -73,6 +73,9 @@ module _ (ss : List Segment) (k : List ℕ) (ms : List Member) (fresh : List Uui
   pub prefixed-fill : manifestFill result ≡ namedFill ss k ms
   unfolding manifestFill numberedTree numbered treeFill
   prefixed-fill = rw (numbered-segments-fill (segmentRuns ss) ss, lent-fill fresh 0 ms) (empty-plus (plus (sum segmentFill ss) (plus (sum keyFill (nameKeys (named k))) (sum borrowFill bs))))
+
+  pub prefixed-counts : namedFill ss k ms .runs ≡ sum segmentFill ss .runs
+  prefixed-counts = omega (arith, lent-runs fresh ms)
 
   module _ (left : ℕ) (h : left ≡ sum segmentFill ss .runs) (c : Fill) (e : c ≡ empty) where
     numbers : left ≡ segmentRuns ss

@@ -15,6 +15,8 @@ use records::Refusal;
 use records::TreeRow;
 use tables::Window;
 use unite::United;
+use unite::no_fill;
+use unite::united_row;
 use unite_groups::measure_groups;
 use unite_groups::put_groups;
 use unite_named::measure_named;
@@ -23,7 +25,6 @@ ghost use mathlib.Core.Path.{_≡_};
 ghost use mathlib.Core.Bool.{true};
 ghost use mathlib.Core.List.{[], _++_};
 ghost use Prim.Native.Nat.{_+_, _*_, _≤_};
-ghost use lib.IntN.{negsuc};
 ghost use lib.ListN.{length};
 ghost use Rattle.tables.specs.Layout.{write, over, joined};
 ghost use Rattle.records.specs.Model.{named};
@@ -41,20 +42,8 @@ ghost use Rattle.unite_sources.specs.Rows.{begins, placesIn};
 ghost use Rattle.unite_named.specs.Named.{segmentsAt, treeTables};
 ghost use Rattle.unite.specs.United.{assembled};
 ghost use Rattle.unite.specs.Answer.{unionTo};
+ghost use Rattle.unite.specs.Steps.{unitedRow};
 ghost use Rattle.unite_segments.specs.Steps.{namedSegments, namedUnion, restFill, namedFill};
-
-fn no_fill() -> Fill
-    ensures { λ r. ⌜ r ≡ empty ⌝ }
-{
-    Fill {
-        segments: 0,
-        views: 0,
-        runs: 0,
-        borrows: 0,
-        ids: 0,
-        bytes: 0,
-    }
-}
 
 // ---- measured
 
@@ -174,9 +163,9 @@ fn put_rest(
     row
 }
 
-// The row of a union whose records were laid at the front of the tables: all but these is the new manifest's, the tree too.
-fn united_row(segments: usize, name: Name, borrows: usize, seq: u64) -> ManifestRow
-    ensures { λ r. ⌜ r ≡ record { initialized = true; tree = newRow; segments = record { first = 0; count = segments }; «segment_extractor_name» = name; «next_wal_sst_id» = 1; «replay_after_wal_id» = 0; «last_l0_clock_tick» = negsuc 9223372036854775807; «last_l0_seq» = seq; «recent_snapshot_min_seq» = 0; «external_dbs» = record { first = 0; count = borrows }; «writer_epoch» = 0; «compactor_epoch» = 0 } ⌝ }
+// The row of such a union with segments: its tree is the new manifest's too.
+fn segmented_row(segments: usize, name: Name, borrows: usize, seq: u64) -> ManifestRow
+    ensures { λ r. ⌜ r ≡ unitedRow newRow segments name borrows seq ⌝ }
 {
     let tree = TreeRow {
         view: ViewMark::None,
@@ -184,28 +173,7 @@ fn united_row(segments: usize, name: Name, borrows: usize, seq: u64) -> Manifest
         l0: Window { first: 0, count: 0 },
         compacted: Window { first: 0, count: 0 },
     };
-    let s = Window {
-        first: 0,
-        count: segments,
-    };
-    let b = Window {
-        first: 0,
-        count: borrows,
-    };
-    ManifestRow {
-        initialized: true,
-        tree,
-        segments: s,
-        segment_extractor_name: name,
-        next_wal_sst_id: 1,
-        replay_after_wal_id: 0,
-        last_l0_clock_tick: -9223372036854775808,
-        last_l0_seq: seq,
-        recent_snapshot_min_seq: 0,
-        external_dbs: b,
-        writer_epoch: 0,
-        compactor_epoch: 0,
-    }
+    united_row(tree, segments, name, borrows, seq)
 }
 
 // Lays the union at the front of the tables; its unsegmented tree is the new one. `left` is the number of its runs.
@@ -279,7 +247,7 @@ fn put_prefixed(
         out_pool,
         at,
     );
-    united_row(at.segments, row, count, seq)
+    segmented_row(at.segments, row, count, seq)
 }
 
 // The refusals 4 and 16, then the union with an extractor is laid. Whether each borrow has a final checkpoint was asked before. `shares` is working memory.

@@ -40,7 +40,8 @@ ghost use Rattle.unite_sources.specs.Rows.{viewsAtWord, nameAtWord, word
 // ---- what a source's row says. A word that the table does not have reads as 0: nothing is asked of the word at which a row begins.
 
 // Word `k` of the row that begins at word `b`.
-fn word_at(t: &[u64], b: usize, k: usize) -> u64
+// inner
+pub fn word_at(t: &[u64], b: usize, k: usize) -> u64
     ensures { λ r. ⌜ r ≡ at (now (t .entry)) (b + k) ⌝ }
 {
     if b < t.len() {
@@ -52,7 +53,8 @@ fn word_at(t: &[u64], b: usize, k: usize) -> u64
 }
 
 // The window in words `k` and `k + 1`.
-fn window_at(t: &[u64], b: usize, k: usize) -> Window
+// inner
+pub fn window_in(t: &[u64], b: usize, k: usize) -> Window
     requires { ⌜ k < 22 ⌝ }
     ensures { λ r. ⌜ r ≡ windowAt (now (t .entry)) (b + k) ⌝ }
 {
@@ -66,8 +68,8 @@ fn window_at(t: &[u64], b: usize, k: usize) -> Window
 fn tree_at(t: &[u64], b: usize) -> TreeRow
     ensures { λ r. ⌜ r ≡ record { view = view-mark.None; sst = sst-mark.None; l0 = windowAt (now (t .entry)) (b + 6); compacted = windowAt (now (t .entry)) (b + 8) } ⌝ }
 {
-    let l0 = window_at(t, b, 6);
-    let compacted = window_at(t, b, 8);
+    let l0 = window_in(t, b, 6);
+    let compacted = window_in(t, b, 8);
     TreeRow {
         view: ViewMark::None,
         sst: SstMark::None,
@@ -104,7 +106,7 @@ fn source_bounds(
     ensures { λ r. ⌜ boundedIn (now (pool .entry)) r ≡ boundingOf (viewsAtWord (now (segments .entry)) (now (runs .entry)) (now (views .entry)) (now (pool .entry)) (now (sources .entry)) b) ⌝ }
 {
     let t = tree_at(sources, b);
-    let w = window_at(sources, b, 10);
+    let w = window_in(sources, b, 10);
     bounding_range(t, segments, w, runs, views, pool)
 }
 

@@ -1,6 +1,6 @@
 // The prefixes: a list of places, two words each, whose bytes ascend.
 use crate::same_bytes;
-use crate::window_at;
+use crate::window_in;
 use keys::begins;
 use keys::is_less;
 use keys::part;
@@ -149,7 +149,7 @@ pub fn segments_of(sources: &[u64], order: &[u64], i: usize) -> Window
     requires { ⌜ (i + 1) * 7 ≤ length (now order) ⌝ }
     ensures { λ r. ⌜ r ≡ windowAt (now (sources .entry)) (at (now (order .entry)) (i * 7) + 10) ⌝ }
 {
-    window_at(sources, ix(order[i * 7]), 10)
+    window_in(sources, ix(order[i * 7]), 10)
 }
 
 // The prefixes of the used sources' segments, at most `most` of each source, ascending, each once. It answers how many. With 8 sources

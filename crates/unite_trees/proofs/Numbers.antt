@@ -11,10 +11,11 @@ use Rattle.records.specs.Fill.{plus, sum, runFill, viewFill, treeFill, segmentF
 use Rattle.records.specs.Layout.{treeRow}
 use Rattle.records.specs.declared.Fill.{Fill}
 use Rattle.records.proofs.Laid.{Table, at}
+use Rattle.measure.specs.Within.{runViews, treeRuns}
 use Rattle.emit.specs.declared.LaidTree.{LaidTree}
 use Rattle.project_views.proofs.Many.{all}
-use Rattle.unite_trees.specs.Joined.{treeRuns, numbered, numberedTree, numberedSegments}
-use Rattle.unite_trees.specs.Steps.{renumbered, downFrom, runId, viewsOf, segmentRuns}
+use Rattle.unite_trees.specs.Joined.{numbered, numberedTree, numberedSegments}
+use Rattle.unite_trees.specs.Steps.{renumbered, downFrom, runId, segmentRuns}
 
 pub numbered-append : (left : ℕ) (xs ys : List Run) → numbered left (xs ++ ys) ≡ numbered left xs ++ numbered (left - length xs) ys
 unfolding numbered
@@ -64,7 +65,7 @@ numbered-ids (r ∷ rs) =
     rw e (ap (λ l. length rs ∷ l) (numbered-ids rs))
 
 -- a number changes no view
-pub numbered-views : (left : ℕ) (rs : List Run) → map viewsOf (numbered left rs) ≡ map viewsOf rs
+pub numbered-views : (left : ℕ) (rs : List Run) → map runViews (numbered left rs) ≡ map runViews rs
 unfolding numbered
 numbered-views left [] = refl
 numbered-views left (r ∷ rs) = ap (λ l. r .views ∷ l) (numbered-views (left - 1) rs)

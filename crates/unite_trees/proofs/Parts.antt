@@ -26,6 +26,7 @@ use Rattle.emit.proofs.Columns.{runs-counted}
 use Rattle.measure.specs.Walk.{addOf}
 use Rattle.measure.specs.declared.Measured.{Measured}
 use Rattle.measure.specs.declared.Measured.the-variants.{Broken, Fills}
+use Rattle.measure.specs.Within.{treeRuns}
 use Rattle.project_views.proofs.Many.{all, sum-many, joined-many, column-many}
 use Rattle.project_views.proofs.Shows as shows
 use Rattle.project_views.proofs.Runs as pieces
@@ -34,7 +35,7 @@ use Rattle.unite_ranges.specs.Arranged.{whats}
 use Rattle.unite_ranges.specs.Rows.{rangedIn}
 use Rattle.unite_ranges.proofs.Mapped.{whats-rows}
 use Rattle.unite_trees.specs.Rows.{treesIn}
-use Rattle.unite_trees.specs.Joined.{treeL0, treeRuns, joinedTree, numbered}
+use Rattle.unite_trees.specs.Joined.{treeL0, joinedTree, numbered}
 use Rattle.unite_trees.specs.Steps.{renumbered}
 use Rattle.unite_trees.proofs.Numbers.{numberedAt, numbered-upTo, numbered-pieces, numbered-fill}
 

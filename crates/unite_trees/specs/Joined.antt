@@ -6,12 +6,10 @@ use Rattle.tables.specs.Layout.{joined}
 use Rattle.ids.specs.declared.ViewMark.the-variants as view-mark
 use Rattle.ids.specs.declared.SstMark.the-variants as sst-mark
 use Rattle.records.specs.Model.{View, Run, Tree, Segment}
+use Rattle.measure.specs.Within.{treeRuns}
 
 abbrev pub treeL0 : Tree → List View
 treeL0 t = t .l0
-
-abbrev pub treeRuns : Tree → List Run
-treeRuns t = t .runs
 
 -- "unsegmented trees joined in order", "Watermarks are none."
 unfoldable pub joinedTree : List Tree → Tree

@@ -1,7 +1,7 @@
 -- The steps that the code takes.
 use Prim.Native.Nat.{ℕ, zero, suc, _*_}
 use mathlib.Core.List.{List, [], _∷_}
-use Rattle.records.specs.Model.{View, Run, Tree, Segment}
+use Rattle.records.specs.Model.{Run, Tree, Segment}
 use Rattle.records.specs.Row.{at, treeAt}
 use Rattle.records.specs.Decode.{treeIn}
 
@@ -22,9 +22,6 @@ downFrom (suc n) = n ∷ downFrom n
 
 abbrev pub runId : Run → ℕ
 runId r = r .id
-
-abbrev pub viewsOf : Run → List View
-viewsOf r = r .views
 
 abbrev pub segmentRuns : Segment → List Run
 segmentRuns s = s .tree .runs

@@ -20,7 +20,8 @@ ghost use Rattle.records.specs.Decode.{runIn, runsIn};
 ghost use Rattle.records.specs.Words.{runWords};
 ghost use Rattle.records.specs.Fill.{plus, sum, viewFill, runFill, treeFill};
 ghost use Rattle.records.specs.Layout.{viewBytes, viewsLaid, runRow, runBytes, runsLaid, runsViewsLaid, treeRow, treeRunsLaid, treeViewsLaid, treeBytes};
-ghost use Rattle.unite_trees.specs.Joined.{treeL0, treeRuns, joinedTree, numbered, numberedTree};
+ghost use Rattle.measure.specs.Within.{treeRuns};
+ghost use Rattle.unite_trees.specs.Joined.{treeL0, joinedTree, numbered, numberedTree};
 ghost use Rattle.unite_trees.specs.Rows.{treesIn};
 ghost use Rattle.unite_trees.specs.Steps.{renumbered, treeOf};
 

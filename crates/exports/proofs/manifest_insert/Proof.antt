@@ -1,6 +1,5 @@
 use mathlib.Core.Path.{ap}
-use Rattle.exports.specs.Replies.{insertReply}
-use borrow.Author.Needs.{needs}
+use Rattle.exports.specs.Calls.{insertReply}
 use Rattle.exports.proofs.manifest_insert.Statement.{statement}
 use Rattle.exports.proofs.manifest_insert.Tie as tie
 

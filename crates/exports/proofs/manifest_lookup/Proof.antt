@@ -1,7 +1,6 @@
 use mathlib.Core.Path.{ap, _∙_}
-use Rattle.exports.specs.Replies.{told}
+use Rattle.exports_forms.specs.Replies.{told}
 use Rattle.segments.specs.Lookup.{looked}
-use borrow.Author.Needs.{needs}
 use Rattle.exports.proofs.manifest_lookup.Statement.{statement}
 use Rattle.exports.proofs.manifest_lookup.Tie as tie
 

@@ -1,6 +1,5 @@
 use mathlib.Core.Path.{ap}
-use Rattle.exports.specs.Borrows.{ownedReply}
-use borrow.Author.Needs.{needs}
+use Rattle.exports_forms.specs.Replies.{ownedReply}
 use Rattle.exports.proofs.manifest_owned.Statement.{statement}
 use Rattle.exports.proofs.manifest_owned.Tie as tie
 

@@ -1,8 +1,7 @@
 use mathlib.Core.Path.{sym, ap, _∙_}
-use Rattle.exports.specs.Replies.{told}
+use Rattle.exports_forms.specs.Replies.{told}
 use Rattle.exports.proofs.Selects.{select-odd, select-even}
 use Rattle.segments.specs.Select.{selected}
-use borrow.Author.Needs.{needs}
 use Rattle.exports.proofs.manifest_select.Statement.{statement}
 use Rattle.exports.proofs.manifest_select.Tie as tie
 

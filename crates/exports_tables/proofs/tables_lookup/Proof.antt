@@ -1,8 +1,7 @@
 use mathlib.Core.Path.{ap, _∙_}
 use mir.Facts.{toZ-ofZ}
-use Rattle.exports.specs.Replies.{told}
+use Rattle.exports_forms.specs.Replies.{told}
 use Rattle.segments.specs.Lookup.{looked}
-use borrow.Author.Needs.{needs}
 use Rattle.exports_tables.proofs.tables_lookup.Statement.{statement}
 use Rattle.exports_tables.proofs.tables_lookup.Tie as tie
 

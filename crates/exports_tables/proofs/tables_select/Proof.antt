@@ -1,9 +1,8 @@
 use mathlib.Core.Path.{sym, ap, _∙_}
 use mir.Facts.{toZ-ofZ}
-use Rattle.exports.specs.Replies.{told}
+use Rattle.exports_forms.specs.Replies.{told}
 use Rattle.segments.specs.Select.{selected}
 use Rattle.exports_tables.proofs.Selects.{select-odd, select-even}
-use borrow.Author.Needs.{needs}
 use Rattle.exports_tables.proofs.tables_select.Statement.{statement}
 use Rattle.exports_tables.proofs.tables_select.Tie as tie
 

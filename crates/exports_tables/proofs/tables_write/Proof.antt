@@ -1,7 +1,6 @@
 use mathlib.Core.Path.{ap}
 use mir.Facts.{toZ-ofZ}
-use Rattle.exports.specs.Replies.{wroteReply}
-use borrow.Author.Needs.{needs}
+use Rattle.exports_forms.specs.Replies.{wroteReply}
 use Rattle.exports_tables.proofs.tables_write.Statement.{statement}
 use Rattle.exports_tables.proofs.tables_write.Tie as tie
 

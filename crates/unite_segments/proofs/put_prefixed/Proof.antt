@@ -24,8 +24,8 @@ put-named-requires c κs = let a = c .before .before .before .before .before .be
 put-rest-requires : tie.Need-put-rest-requires
 put-rest-requires c κs = let a = c .before .before .before .before .before .before .before .before .before .before .before .before .before .before .before .before .before .before .before .before .before .before .before .before .before .before .before .before .before .before .before .before .before .before .before .before .before .args in let p = c .before .before .before .before .before .before .before .before .before .before .before .before .before .before .before .before .before .before .before .before .before .before .before .before .before .before .before .before .before .before .before .before .before .before .before .before .before .pre in let ss = namedSegments (now (a .segments)) (now (a .views)) (now (a .runs)) (now (a .pool)) (now (a .sources)) (now (a .order)) (a .n) (now (a .prefixes)) (a .np) in let k = bytesIn (now (a .pool)) (a .name) in let ms = membersIn (now (a .groups)) (now (a .sets)) (now (a .pool)) (a .count) in let o : Lent = record { segments = now (a .out-segments); views = now (a .out-views); runs = now (a .out-runs); borrows = now (a .out-borrows); ids = now (a .out-ids); pool = now (a .out-pool) } in let u = under (namedFill ss k ms) (roomOf o) (p .1 .1 .1 .1 .1) in let h = p .1 .1 .1 .1 .0 in let e = c .before .before .before .before .before .before .before .before .before .before .before .before .before .before .before .before .before .before .before .no-fill .ensures in let q = c .before .before .before .before .before .before .before .before .before .before .before .before .before .put-named .ensures .0 in (p .1 .1 .1 .0, (rest-room ss k ms (uuidsOf (now (a .fresh))) (a .seq) (a .left) h _ e _ q borrows (length (now (a .out-borrows))) (omega (arith, u .borrows)), (rest-room ss k ms (uuidsOf (now (a .fresh))) (a .seq) (a .left) h _ e _ q ids (length (now (a .out-ids))) (omega (arith, u .ids)), omega (arith, c .before .before .before .before .before .before .before .before .before .before .before .before .before .put-named .kept, rest-room ss k ms (uuidsOf (now (a .fresh))) (a .seq) (a .left) h _ e _ q pool (length (now (a .out-pool))) (omega (arith, u .bytes))))))
 
-united-row-requires : tie.Need-united-row-requires
-united-row-requires c κs = search needs
+segmented-row-requires : tie.Need-segmented-row-requires
+segmented-row-requires c κs = search needs
 
 same-length : tie.Need-same-length
 same-length c = omega (arith, c .before .before .before .before .before .before .before .before .before .before .before .before .before .before .before .before .before .before .before .before .before .put-named .kept)
@@ -49,7 +49,7 @@ same-length-7 : tie.Need-same-length-7
 same-length-7 c = omega (arith, c .before .before .before .before .before .before .before .before .before .before .before .before .before .before .before .before .before .before .before .before .before .put-named .kept, c .before .before .before .before .before .before .before .put-rest .kept)
 
 returns : tie.Need-returns
-returns c = let a = c .before .before .before .before .before .before .before .before .before .before .before .before .before .before .before .before .before .before .before .before .before .before .before .before .before .before .before .before .before .before .before .before .before .before .before .before .before .before .before .before .before .before .before .before .before .args in let p = c .before .before .before .before .before .before .before .before .before .before .before .before .before .before .before .before .before .before .before .before .before .before .before .before .before .before .before .before .before .before .before .before .before .before .before .before .before .before .before .before .before .before .before .before .before .pre in let ss = namedSegments (now (a .segments)) (now (a .views)) (now (a .runs)) (now (a .pool)) (now (a .sources)) (now (a .order)) (a .n) (now (a .prefixes)) (a .np) in let k = bytesIn (now (a .pool)) (a .name) in let ms = membersIn (now (a .groups)) (now (a .sets)) (now (a .pool)) (a .count) in let o : Lent = record { segments = now (a .out-segments); views = now (a .out-views); runs = now (a .out-runs); borrows = now (a .out-borrows); ids = now (a .out-ids); pool = now (a .out-pool) } in let h = p .1 .1 .1 .1 .0 in let e = c .before .before .before .before .before .before .before .before .before .before .before .before .before .before .before .before .before .before .before .before .before .before .before .before .before .before .before .no-fill .ensures in let j = c .before .before .before .before .before .before .before .before .before .before .before .before .before .before .before .before .before .before .before .before .before .put-named .ensures in let q = j .0 in let g = c .before .before .before .before .before .before .before .put-rest .ensures in (prefixed-row ss k ms (uuidsOf (now (a .fresh))) (a .seq) (a .left) h _ e _ q _ _ _ (g .0) (sym (members-long (now (a .groups)) (now (a .sets)) (now (a .pool)) (a .count))) (c .united-row .ensures), (prefixed-segments ss k ms (uuidsOf (now (a .fresh))) (a .seq) (a .left) h _ e _ _ (j .1 .0), (prefixed-views ss k ms (uuidsOf (now (a .fresh))) (a .seq) (a .left) h _ e _ _ (j .1 .1 .1 .0), (prefixed-runs ss k ms (uuidsOf (now (a .fresh))) (a .seq) (a .left) h _ e _ _ (j .1 .1 .0), (prefixed-borrows ss k ms (uuidsOf (now (a .fresh))) (a .seq) (a .left) h _ e _ q _ _ (g .1 .0), (prefixed-ids ss k ms (uuidsOf (now (a .fresh))) (a .seq) (a .left) h _ e _ q _ _ (g .1 .1 .0), prefixed-pool ss k ms (uuidsOf (now (a .fresh))) (a .seq) (a .left) h _ e _ q _ _ _ (j .1 .1 .1 .1) (g .1 .1 .1)))))))
+returns c = let a = c .before .before .before .before .before .before .before .before .before .before .before .before .before .before .before .before .before .before .before .before .before .before .before .before .before .before .before .before .before .before .before .before .before .before .before .before .before .before .before .before .before .before .before .before .before .args in let p = c .before .before .before .before .before .before .before .before .before .before .before .before .before .before .before .before .before .before .before .before .before .before .before .before .before .before .before .before .before .before .before .before .before .before .before .before .before .before .before .before .before .before .before .before .before .pre in let ss = namedSegments (now (a .segments)) (now (a .views)) (now (a .runs)) (now (a .pool)) (now (a .sources)) (now (a .order)) (a .n) (now (a .prefixes)) (a .np) in let k = bytesIn (now (a .pool)) (a .name) in let ms = membersIn (now (a .groups)) (now (a .sets)) (now (a .pool)) (a .count) in let o : Lent = record { segments = now (a .out-segments); views = now (a .out-views); runs = now (a .out-runs); borrows = now (a .out-borrows); ids = now (a .out-ids); pool = now (a .out-pool) } in let h = p .1 .1 .1 .1 .0 in let e = c .before .before .before .before .before .before .before .before .before .before .before .before .before .before .before .before .before .before .before .before .before .before .before .before .before .before .before .no-fill .ensures in let j = c .before .before .before .before .before .before .before .before .before .before .before .before .before .before .before .before .before .before .before .before .before .put-named .ensures in let q = j .0 in let g = c .before .before .before .before .before .before .before .put-rest .ensures in (prefixed-row ss k ms (uuidsOf (now (a .fresh))) (a .seq) (a .left) h _ e _ q _ _ _ (g .0) (sym (members-long (now (a .groups)) (now (a .sets)) (now (a .pool)) (a .count))) (c .segmented-row .ensures), (prefixed-segments ss k ms (uuidsOf (now (a .fresh))) (a .seq) (a .left) h _ e _ _ (j .1 .0), (prefixed-views ss k ms (uuidsOf (now (a .fresh))) (a .seq) (a .left) h _ e _ _ (j .1 .1 .1 .0), (prefixed-runs ss k ms (uuidsOf (now (a .fresh))) (a .seq) (a .left) h _ e _ _ (j .1 .1 .0), (prefixed-borrows ss k ms (uuidsOf (now (a .fresh))) (a .seq) (a .left) h _ e _ q _ _ (g .1 .0), (prefixed-ids ss k ms (uuidsOf (now (a .fresh))) (a .seq) (a .left) h _ e _ q _ _ (g .1 .1 .0), prefixed-pool ss k ms (uuidsOf (now (a .fresh))) (a .seq) (a .left) h _ e _ q _ _ _ (j .1 .1 .1 .1) (g .1 .1 .1)))))))
 
 pub put-prefixed-spec : {M : Type 1} → statement M
 put-prefixed-spec =
@@ -58,7 +58,7 @@ put-prefixed-spec =
     no-fill-requires
     put-named-requires
     put-rest-requires
-    united-row-requires
+    segmented-row-requires
     same-length
     same-length-2
     same-length-3

@@ -8,6 +8,6 @@ source-bounds-spec =
     tie.close
     (tie.spec
     (λ c κs. search needs)  -- tree-at-requires
-    (λ c κs. search needs)  -- window-at-requires
+    (λ c κs. search needs)  -- window-in-requires
     (λ c κs. search needs)  -- bounding-range-requires
     (λ c. search (source-views, needs)))  -- returns

@@ -6,6 +6,6 @@ pub tree-at-spec : {M : Type 1} → statement M
 tree-at-spec =
     tie.close
     (tie.spec
-    (λ c κs. search needs)  -- window-at-requires
-    (λ c κs. search needs)  -- window-at-requires-2
+    (λ c κs. search needs)  -- window-in-requires
+    (λ c κs. search needs)  -- window-in-requires-2
     (λ c. cc))  -- returns

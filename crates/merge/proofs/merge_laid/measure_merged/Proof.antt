@@ -7,10 +7,10 @@ use Rattle.merge.proofs.merge_laid.measure_merged.Statement.{statement}
 use Rattle.merge.proofs.merge_laid.measure_merged.Tie as tie
 
 abbrev Inv-loop : tie.InvT-loop
-Inv-loop source lim segments runs views pool w c n m end to₀ i₀ j₀ to i j = Measuring source lim segments runs views pool w c n m end i j to
+Inv-loop side lim segments runs views pool w c n m end to₀ i₀ j₀ to i j = Measuring side lim segments runs views pool w c n m end i j to
 
 abbrev μ-loop : tie.MeasureT-loop
-μ-loop source lim segments runs views pool w c n m end to₀ i₀ j₀ to i j = end - (i + j)
+μ-loop side lim segments runs views pool w c n m end to₀ i₀ j₀ to i j = end - (i + j)
 
 held-requires : tie.Need-held-requires Inv-loop μ-loop
 held-requires c κs = tt
@@ -22,7 +22,7 @@ add-end : tie.Need-add-end Inv-loop μ-loop
 add-end c = let a = c .before .before .before .before .before .before .args in ends-fit (now (a .segments)) (now (a .views)) (now (a .runs)) (now (a .pool)) (a .w) (a .c) _ _ (c .before .held .ensures) (c .held2 .ensures) (omega (arith, c .before .before .before .before .before .before .good .1 .1 .0))
 
 loop-holds : tie.Need-loop-holds Inv-loop μ-loop
-loop-holds c = let a = c .before .before .before .before .before .before .args in let p = c .before .before .before .before .before .before .pre in measuring-none (a .source) (a .lim) (now (a .segments)) (now (a .runs)) (now (a .views)) (now (a .pool)) (a .w) (a .c) _ _ (c .before .held .ensures) (c .held2 .ensures) (p .0 .0) (p .0 .1) (p .1 .0) (p .1 .1)
+loop-holds c = let a = c .before .before .before .before .before .before .args in let p = c .before .before .before .before .before .before .pre in measuring-none (a .side) (a .lim) (now (a .segments)) (now (a .runs)) (now (a .views)) (now (a .pool)) (a .w) (a .c) _ _ (c .before .held .ensures) (c .held2 .ensures) (p .0 .0) (p .0 .1) (p .1 .0) (p .1 .1)
 
 add-loop : tie.Need-add-loop Inv-loop μ-loop
 add-loop c = sum-fits _ _ _ _ _ _ _ _ _ _ (c .loop .inv .between) (omega (arith, c .before .before .before .before .before .before .before .good .1 .1 .0))

@@ -6,7 +6,7 @@ use Prim.Native.Nat.{_-_, _/_}
 use native.Mathlib.Omega.{arith}
 use lib.ListN.{length}
 use Rattle.tables.proofs.Windows.{held-in}
-use Rattle.project_views.specs.Shown.{idsUsed}
+use Rattle.measure.specs.Within.{idsUsed}
 use Rattle.project_views.proofs.Ids.{Listed, listed-none, listed-room, listed-more, listed-all}
 use Rattle.project_ranges.specs.Args.{configIn}
 use Rattle.project_lay.specs.Steps.{segmentsViews}

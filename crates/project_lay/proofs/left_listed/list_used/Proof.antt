@@ -6,8 +6,7 @@ use lib.ListN.{length}
 use Rattle.records.specs.Model.{Tree}
 use Rattle.records.specs.Decode.{treeIn, segmentsIn}
 use Rattle.records.specs.Fill.{empty}
-use Rattle.measure.specs.Within.{treeViews}
-use Rattle.project_views.specs.Shown.{idsUsed}
+use Rattle.measure.specs.Within.{treeViews, idsUsed}
 use Rattle.project_ranges.specs.Action.{actionOf}
 use Rattle.project_ranges.specs.Args.{configIn}
 use Rattle.project_lay.specs.After.{treeAfter, segmentsAfter}

@@ -10,5 +10,5 @@ segments-of-spec =
     (λ c. search needs)  -- mul-ix-2
     (λ c. search needs)  -- shared-slice-read-ix
     (λ c κs. search needs)  -- ix-requires
-    (λ c κs. search needs)  -- window-at-requires
+    (λ c κs. search needs)  -- window-in-requires
     (λ c. cc))  -- returns

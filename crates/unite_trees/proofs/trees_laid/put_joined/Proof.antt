@@ -4,10 +4,11 @@ use native.Mathlib.Omega.{arith}
 use Rattle.tables.specs.Layout.{joined}
 use Rattle.records.specs.Fill.{sum, viewFill, runFill, treeFill}
 use Rattle.records.proofs.Laid.{runs, views, pool}
+use Rattle.measure.specs.Within.{treeRuns}
 use Rattle.emit.proofs.Laid.{room-first, room-rest}
 use Rattle.emit.proofs.Columns.{runs-counted}
 use Rattle.emit.proofs.Rows.{tree-order, tree-laid, tree-runs, tree-views, tree-bytes}
-use Rattle.unite_trees.specs.Joined.{treeL0, treeRuns, joinedTree, numberedTree}
+use Rattle.unite_trees.specs.Joined.{treeL0, joinedTree, numberedTree}
 use Rattle.unite_trees.specs.Rows.{treesIn}
 use Rattle.unite_trees.proofs.Numbers.{numbered-fill, numbered-laid, numbered-room}
 use Rattle.unite_trees.proofs.trees_laid.put_joined.Statement.{statement}

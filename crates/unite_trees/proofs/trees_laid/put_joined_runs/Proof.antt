@@ -7,9 +7,10 @@ use native.Mathlib.Omega.{arith}
 use Rattle.tables.specs.Layout.{upTo, joined}
 use Rattle.records.specs.Fill.{plus, sum, runFill}
 use Rattle.records.specs.Layout.{runsLaid, runsViewsLaid}
+use Rattle.measure.specs.Within.{treeRuns}
 use Rattle.emit.proofs.Laid.{Walk, Grown, walk-none, walk-more, walk-all, grown-none, grown-room, grown-more, grown-all, joined-all}
 use Rattle.project_views.proofs.Runs.{pieceRows, pieceViews, piecePool}
-use Rattle.unite_trees.specs.Joined.{treeRuns, numbered}
+use Rattle.unite_trees.specs.Joined.{numbered}
 use Rattle.unite_trees.specs.Rows.{treesIn}
 use Rattle.unite_trees.specs.Steps.{treeOf}
 use Rattle.unite_trees.proofs.Numbers.{numberedAt, numbered-pieces}

@@ -1,0 +1,44 @@
+use borrow.Author.Needs.{needs}
+use Rattle.exports_forms.proofs.answers.looked_answer.Statement.{statement}
+use Rattle.exports_forms.proofs.answers.looked_answer.Tie as tie
+
+enum-told : tie.Need-enum-told
+enum-told c = search needs
+
+enum-known-x : tie.Need-enum-known-x
+enum-known-x c = search needs
+
+enum-told-2 : tie.Need-enum-told-2
+enum-told-2 c = search needs
+
+enum-known-x-2 : tie.Need-enum-known-x-2
+enum-known-x-2 c = search needs
+
+refused-answer-requires : tie.Need-refused-answer-requires
+refused-answer-requires c κs = tt
+
+returns : tie.Need-returns
+returns c = rw (c .enum-told .given .1)
+
+returns-2 : tie.Need-returns-2
+returns-2 c = rw (c .before .x .given .1)
+
+returns-3 : tie.Need-returns-3
+returns-3 c = rw (c .enum-told2 .given .1)
+
+returns-4 : tie.Need-returns-4
+returns-4 c = rw (c .before .before .x2 .given .1) (c .refused-answer .ensures)
+
+pub looked-answer-spec : {M : Type 1} → statement M
+looked-answer-spec =
+    tie.close
+    (tie.spec
+    enum-told
+    enum-known-x
+    enum-told-2
+    enum-known-x-2
+    refused-answer-requires
+    returns
+    returns-2
+    returns-3
+    returns-4)
