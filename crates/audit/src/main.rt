@@ -1,4 +1,6 @@
 // The audit program: reads a manifest as MessagePack on standard input and writes five lines, or why it is refused.
+#![tactic(auto)]
+
 use copy::Copied;
 use libc::{STDIN_FILENO, STDOUT_FILENO};
 use measure::Measured;

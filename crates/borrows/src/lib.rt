@@ -1,4 +1,6 @@
 // Owned ids and clone.
+#![tactic(auto)]
+
 mod clone_answers;
 mod clone_lenders;
 mod clone_rows;
@@ -11,14 +13,14 @@ pub use ids_owned::{first_naming, own_all, owned_judged, owned_ssts};
 use records::{ManifestRow, Refusal};
 
 // How many ids were laid, or why none was.
-#[derive(Drop)]
+#[derive(Clone, Copy)]
 pub enum Owned {
     Done(usize),
     Refused(Refusal),
 }
 
 // The clone's place in the output tables, or why there is none.
-#[derive(Drop)]
+#[derive(Clone, Copy)]
 pub enum ClonedAs {
     Done(ManifestRow),
     Refused(Refusal),

@@ -1,4 +1,6 @@
 // The canonical copy: a manifest's records laid out anew, in order and with no gap.
+#![tactic(auto)]
+
 ghost use Rattle.std.specs.Prelude.{◌≡◌, true, ◌++◌, ◌+◌, ◌*◌, ◌≤◌, length};
 ghost use Rattle.tables.specs.Layout.{write, joined};
 ghost use Rattle.records.specs.Decode.{tree_in, segments_in, name_in, borrows_in, manifest_in};
@@ -12,7 +14,7 @@ use records::{Fill, Limits, ManifestRow, Name, Refusal, TreeRow};
 use tables::{Window, held};
 
 // The copy's place in the output tables, or why there is none.
-#[derive(Drop)]
+#[derive(Clone, Copy)]
 pub enum Copied {
     Done(ManifestRow),
     Refused(Refusal),

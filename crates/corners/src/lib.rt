@@ -1,1 +1,2 @@
 // The marked corners: one statement and its proof, no code.
+#![tactic(auto)]

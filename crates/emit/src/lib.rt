@@ -1,5 +1,7 @@
 // The emitter: one view, run, tree, segment, borrow or id at a time is appended to lent output tables, from any source
 // tables. A cursor, `c`, is what was laid before; a writer gives the cursor past what it laid.
+#![tactic(auto)]
+
 mod borrows_put;
 mod runs_put;
 mod segments_put;
@@ -12,37 +14,37 @@ pub use runs_put::{put_run, put_run_row, put_runs, put_tree, tree_row};
 pub use segments_put::{put_prefix, put_segment, put_segment_row, put_segments};
 pub use views_put::{put_view, put_views};
 
-#[derive(Drop)]
+#[derive(Clone, Copy)]
 pub struct LaidLast {
     pub last: Last,
     pub past: usize,
 }
 
-#[derive(Drop)]
+#[derive(Clone, Copy)]
 pub struct LaidBound {
     pub bound: Bound,
     pub past: usize,
 }
 
-#[derive(Drop)]
+#[derive(Clone, Copy)]
 pub struct LaidVisible {
     pub visible: Visible,
     pub past: usize,
 }
 
-#[derive(Drop)]
+#[derive(Clone, Copy)]
 pub struct LaidView {
     pub view: ViewRow,
     pub past: usize,
 }
 
-#[derive(Drop)]
+#[derive(Clone, Copy)]
 pub struct LaidTree {
     pub tree: TreeRow,
     pub past: Fill,
 }
 
-#[derive(Drop)]
+#[derive(Clone, Copy)]
 pub struct LaidName {
     pub name: Name,
     pub past: Fill,

@@ -1,5 +1,7 @@
 // Operations on encoded manifests: bytes in, an answer or encoded bytes out. The rows are read over the input itself, into working
 // tables that the caller lends; what those hold afterwards is of no use. A refused call leaves the lent output as it was.
+#![tactic(auto)]
+
 mod bytes_asked;
 mod bytes_inserted;
 mod bytes_read;
@@ -13,7 +15,7 @@ pub use bytes_read::{has_tables, read, rows_of};
 use records::{ManifestRow, Refusal};
 
 // Rows over the input itself, or why there are none. Whether they are lawful is not judged yet.
-#[derive(Drop)]
+#[derive(Clone, Copy)]
 pub enum Rows {
     Are(ManifestRow),
     Refused(Refusal),
@@ -21,7 +23,7 @@ pub enum Rows {
 
 // What insert answers: the place of a prefix that was held, or the place at which it entered and how many bytes the manifest with
 // it has.
-#[derive(Drop)]
+#[derive(Clone, Copy)]
 pub enum InsertedTo {
     Found(usize),
     Entered(usize, usize),

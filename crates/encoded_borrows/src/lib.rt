@@ -1,5 +1,7 @@
 // Owned ids and clone on encoded manifests: bytes in, ids or encoded bytes out. The rows are read over the input itself, into working
 // tables that the caller lends; what those hold afterwards is of no use. A refused call leaves the lent output as it was.
+#![tactic(auto)]
+
 mod clone_bytes;
 
 ghost use Rattle.std.specs.Prelude.{◌≡◌, true, [], ◌/◌, ◌≤◌, length};

@@ -1,5 +1,7 @@
 // Both merges on encoded manifests: bytes in, the encoded segment list out. Both manifests are laid out one behind the other in one set of
 // working tables; those that each was read into then hold the merged list. A refused call leaves the lent output as it was.
+#![tactic(auto)]
+
 mod both_read;
 mod list_merged;
 
@@ -14,14 +16,14 @@ use merge::Side;
 use records::{Fill, Limits, ManifestRow, Refusal};
 
 // Whether two manifests may be read.
-#[derive(Drop)]
+#[derive(Clone, Copy)]
 enum Ready {
     Yes,
     No(Refusal),
 }
 
 // The rows of the writer's manifest and of the compactor's in the same tables, or why there are none.
-#[derive(Drop)]
+#[derive(Clone, Copy)]
 enum Both {
     Are(ManifestRow, ManifestRow),
     Refused(Refusal),

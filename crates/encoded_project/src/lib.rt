@@ -1,6 +1,8 @@
 // The parts of the projection of an encoded manifest, bytes in, the encoded result out; exports puts them together. The bytes of the
 // arguments and behind them the manifest stand in one set of working tables; those that the manifest was read into then hold the result.
 // A refused call leaves the lent output as it was.
+#![tactic(auto)]
+
 mod behind_arguments;
 mod result_bytes;
 
@@ -15,7 +17,7 @@ pub use result_bytes::project_within;
 use segments::range_over;
 
 // How many segments the mask names, and how many bytes the result has; or why there is none.
-#[derive(Drop)]
+#[derive(Clone, Copy)]
 pub enum ProjectedTo {
     Done(usize, usize),
     Refused(Refusal),

@@ -1,4 +1,6 @@
 // The union of encoded manifests: bytes in, bytes out. All sources are laid out in one set of working tables, behind the paths' bytes.
+#![tactic(auto)]
+
 ghost use Rattle.std.specs.Prelude.{◌≡◌, true, false, ◌+◌, ◌-◌, ◌*◌, ◌≤◌, ◌<◌, length};
 ghost use Rattle.tables.specs.Layout.{write};
 ghost use Rattle.records.specs.Fill.{plus, bytes, fits};
@@ -19,7 +21,7 @@ use records::{Fill, Limits, ManifestRow, Name, Place, Refusal, SegmentRow, segme
 use tables::{ix, put_bytes, put_words};
 
 // What came of reading.
-#[derive(Drop)]
+#[derive(Clone, Copy)]
 pub enum Reading {
     Done,
     Refused(Refusal),

@@ -1,5 +1,7 @@
 // The union of encoded manifests: bytes in, bytes out. Each source is read into working tables and from there into those that hold all; these are
 // united into the working tables, which nothing else needs by then, and written. A refused call leaves the lent output as it was.
+#![tactic(auto)]
+
 mod call_forms;
 
 ghost use Rattle.std.specs.Prelude.{◌≡◌, false, ◌||◌, [], length};

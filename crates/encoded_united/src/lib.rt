@@ -1,5 +1,7 @@
 // What comes of sources that were read: united into the tables of the result and written, or why not. A refused call leaves the lent output
 // as it was.
+#![tactic(auto)]
+
 ghost use Rattle.std.specs.Prelude.{◌≡◌, true, false, ◌+◌, ◌-◌, ◌*◌, ◌/◌, ◌≤◌, ltb, length, replicate};
 ghost use Rattle.records.specs.Fill.{fits};
 ghost use Rattle.records.specs.Decode.{manifest_in};

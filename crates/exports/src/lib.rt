@@ -1,5 +1,7 @@
 // The face for programs in other languages: encoded manifests, plain bytes and numbers in, numbers and encoded bytes out. All memory
 // is lent by the caller; what the working tables hold after a call is of no use.
+#![tactic(auto)]
+
 mod answers;
 
 ghost use Rattle.std.specs.Prelude.{◌≡◌, []};

@@ -1,5 +1,7 @@
 // What goes in and out of an entry point: the numbers that stand for a room, a range, a projection's wishes or an id, and those that tell
 // an answer. The crates of entry points share it.
+#![tactic(auto)]
+
 mod answers;
 mod arguments;
 
@@ -8,7 +10,7 @@ pub use arguments::{config_arg, global_odd, is_odd, range_arg, room_fill, uuid_a
 
 // What a call answers: 0 and the operation's numbers, or a refusal's number and place; the rest 0.
 #[repr(C)]
-#[derive(Drop)]
+#[derive(Clone, Copy)]
 pub struct Answer {
     pub number: usize,
     pub first: usize,

@@ -1,5 +1,7 @@
 // The operations on tables that the caller holds, for programs in other languages: no bytes are taken apart. A manifest's own value is 24
 // words and its clock tick; specs/Head.antt says which word is what. Each call judges the manifest anew.
+#![tactic(auto)]
+
 mod head_forms;
 
 ghost use Rattle.std.specs.Prelude.{◌≡◌};
@@ -22,7 +24,7 @@ use records::{Refusal, limits_01};
 
 // What a call answers that lays a manifest into tables: `tree`, `rest` and `tick` are its own value where there is one.
 #[repr(C)]
-#[derive(Drop)]
+#[derive(Clone, Copy)]
 pub struct Laid {
     pub answer: Answer,
     pub tree: [u64; 12],

@@ -1,5 +1,7 @@
 // The entry point of union. It stands by itself, since a call with twenty-one slices costs the prover half as much as the nine others together;
 // programs link both archives.
+#![tactic(auto)]
+
 ghost use Rattle.std.specs.Prelude.{◌≡◌, [], length};
 ghost use Rattle.records.specs.Limits.{limits01};
 ghost use Rattle.manifest_rows.specs.Stored.{lent};

@@ -1,4 +1,6 @@
 // ULIDs and UUIDs: 16 bytes, held as two halves, the high one first.
+#![tactic(auto)]
+
 ghost use Rattle.std.specs.Prelude.{◌≡◌};
 ghost use Rattle.keys.specs.Key.{order_of};
 ghost use Rattle.ids.specs.Id.{same_of, id_bytes, same_view_of, same_sst_of, marks_view_of, marks_sst_of, sst_bytes, uuid_bytes};
@@ -7,33 +9,33 @@ ghost use Rattle.ids.specs.Names.{ids_of, names_of};
 use keys::Order;
 
 // The ULID of a view.
-#[derive(Drop)]
+#[derive(Clone, Copy)]
 pub struct ViewId(pub u64, pub u64);
 
 // The ULID of an SST.
-#[derive(Drop)]
+#[derive(Clone, Copy)]
 pub struct SstId(pub u64, pub u64);
 
 // The UUID of a checkpoint.
-#[derive(Drop)]
+#[derive(Clone, Copy)]
 pub struct Uuid(pub u64, pub u64);
 
 // A tree's view watermark.
-#[derive(Drop)]
+#[derive(Clone, Copy)]
 pub enum ViewMark {
     None,
     Some(ViewId),
 }
 
 // A tree's SST watermark.
-#[derive(Drop)]
+#[derive(Clone, Copy)]
 pub enum SstMark {
     None,
     Some(SstId),
 }
 
 // A borrow's final checkpoint.
-#[derive(Drop)]
+#[derive(Clone, Copy)]
 pub enum Final {
     None,
     Some(Uuid),

@@ -1,4 +1,6 @@
 // Insert: whether a prefix is held, whether it nests with one that is held, and the manifest that an empty tree for it enters.
+#![tactic(auto)]
+
 mod prefix_nests;
 mod with_one_more;
 
@@ -24,7 +26,7 @@ use with_one_more::put_entered;
 
 // What insert answers: the place of a prefix that was held, or the place at which it entered and the manifest with it, in
 // the output tables.
-#[derive(Drop)]
+#[derive(Clone, Copy)]
 pub enum Inserted {
     Found(usize),
     Entered(usize, ManifestRow),
@@ -32,7 +34,7 @@ pub enum Inserted {
 }
 
 // What stands in the way of a prefix: nothing, or the segment that it nests with.
-#[derive(Drop)]
+#[derive(Clone, Copy)]
 pub enum Nesting {
     Free,
     Conflict(usize),

@@ -15,9 +15,13 @@ use Rattle.keys.specs.Pick.{pick}
 use Rattle.keys.specs.Says.{Says, holds, fails}
 use Rattle.keys.specs.Key.{order_of, is_less, less_of, Below, UpTo}
 
+below_apart : {a b : List ℕ} → Below a b → a ≡ b → ⊥
+below_apart Below.end e = cc
+below_apart (Below.here {x = x} {y = y} h) e = let q : x ≡ y = cc in omega arith
+below_apart (Below.next {a = a} {b = b} h) e = below_apart h (cc)
+
 pub below_irrefl : {a : List ℕ} → Below a a → ⊥
-below_irrefl (Below.here h) = omega arith
-below_irrefl (Below.next h) = below_irrefl h
+below_irrefl h = below_apart h refl
 
 pub below_trans : {a b c : List ℕ} → Below a b → Below b c → Below a c
 below_trans Below.end (Below.here h) = Below.end
@@ -38,12 +42,22 @@ up_to_trans (UpTo.here h) (UpTo.next k) = UpTo.here h
 up_to_trans (UpTo.next h) (UpTo.here k) = UpTo.here k
 up_to_trans (UpTo.next h) (UpTo.next k) = UpTo.next (up_to_trans h k)
 
+antisym_at : {a b c d : List ℕ} → UpTo a b → UpTo c d → c ≡ b → d ≡ a → a ≡ b
+antisym_at UpTo.end UpTo.end e f = e
+antisym_at UpTo.end (UpTo.here k) e f = cc
+antisym_at UpTo.end (UpTo.next k) e f = cc
+antisym_at (UpTo.here h) UpTo.end e f = cc
+antisym_at (UpTo.here {x = x} {y = y} h) (UpTo.here {x = z} {y = w} k) e f =
+    let p : z ≡ y = cc in let q : w ≡ x = cc in absurd (omega arith)
+antisym_at (UpTo.here {x = x} {y = y} h) (UpTo.next {x = z} k) e f =
+    let p : z ≡ y = cc in let q : z ≡ x = cc in absurd (omega arith)
+antisym_at (UpTo.next h) UpTo.end e f = cc
+antisym_at (UpTo.next {x = x} h) (UpTo.here {x = z} {y = w} k) e f =
+    let p : z ≡ x = cc in let q : w ≡ x = cc in absurd (omega arith)
+antisym_at (UpTo.next {x = x} h) (UpTo.next k) e f = ap (λ l. x ∷ l) (antisym_at h k (cc) (cc))
+
 pub up_to_antisym : {a b : List ℕ} → UpTo a b → UpTo b a → a ≡ b
-up_to_antisym UpTo.end UpTo.end = refl
-up_to_antisym (UpTo.here h) (UpTo.here k) = absurd (omega arith)
-up_to_antisym (UpTo.here h) (UpTo.next k) = absurd (omega arith)
-up_to_antisym (UpTo.next h) (UpTo.here k) = absurd (omega arith)
-up_to_antisym (UpTo.next {x = x} h) (UpTo.next k) = ap (λ l. x ∷ l) (up_to_antisym h k)
+up_to_antisym h k = antisym_at h k refl refl
 
 pub up : {a b : List ℕ} → Below a b → UpTo a b
 up Below.end = UpTo.end

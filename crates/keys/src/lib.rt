@@ -1,4 +1,6 @@
 // Keys as byte strings: their order, prefixes, bounds and ranges. The floor that everything stands on.
+#![tactic(auto)]
+
 ghost use Rattle.std.specs.Prelude.{◌≡◌, [], ◌∷◌, ◌++◌, ◌+◌, length, leb};
 ghost use Rattle.keys.specs.Key.{order_of, less_of, shared_of};
 ghost use Rattle.keys.specs.Prefix.{begins_of, after, under_of, successor_of};
@@ -7,7 +9,7 @@ ghost use Rattle.keys.specs.Meet.{or_else, start_order, end_order, beside};
 ghost use Rattle.keys.specs.Pool.{part_of, edge_of, inside_of, later_in, earlier_in, meet_in};
 
 // What a comparison answers.
-#[derive(Drop)]
+#[derive(Clone, Copy)]
 pub enum Order {
     Less,
     Equal,
@@ -15,21 +17,21 @@ pub enum Order {
 }
 
 // Where a range starts or ends. A key is an offset and a length in a lent pool of bytes.
-#[derive(Drop)]
+#[derive(Clone, Copy)]
 pub enum Bound {
     Unbounded,
     Included(usize, usize),
     Excluded(usize, usize),
 }
 
-#[derive(Drop)]
+#[derive(Clone, Copy)]
 pub struct Range {
     pub start: Bound,
     pub end: Bound,
 }
 
 // A prefix's successor: none, or so many of its first bytes, the last of them one more.
-#[derive(Drop)]
+#[derive(Clone, Copy)]
 pub enum Successor {
     Nowhere,
     Grown(usize),

@@ -3,6 +3,8 @@
 // The lines in stdout were worked out from document 01 and not taken from this program: keys compared as byte
 // strings, a range called empty where none of all keys of up to four bytes over the bytes in play lies in it, bounds
 // ordered as the text words it, a successor as the least byte string above all that begin with the prefix.
+#![tactic(auto)]
+
 use keys::{Bound, Order, Range, Successor};
 use libc::STDOUT_FILENO;
 

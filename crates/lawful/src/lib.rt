@@ -1,4 +1,6 @@
 // The lawful check: for any words, any bytes, any manifest value at all the first broken rule, or that all hold.
+#![tactic(auto)]
+
 mod prefix_laws;
 mod run_laws;
 mod view_laws;
@@ -13,7 +15,7 @@ pub use run_laws::l5;
 pub use view_laws::{l4, last_bound, seen_range};
 
 // Whether all rules hold, or the number of the first that is broken.
-#[derive(Drop)]
+#[derive(Clone, Copy)]
 pub enum Judged {
     Lawful,
     Breaks(usize),

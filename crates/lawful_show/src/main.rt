@@ -4,6 +4,8 @@
 // stdin has the rows of the tables and then the manifests, and says at its top how a line is written. Of a line that is
 // written otherwise what can be read counts: a missing number is 0, a row outside its table is not set, a line of no kind
 // is skipped.
+#![tactic(auto)]
+
 mod lines;
 
 ghost use Rattle.std.specs.Prelude.{◌≤◌};

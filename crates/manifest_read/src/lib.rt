@@ -1,4 +1,6 @@
 // Manifests from MessagePack: rows over the input itself, judged, then copied canonically.
+#![tactic(auto)]
+
 ghost use Rattle.std.specs.Prelude.{◌≡◌, true};
 ghost use Rattle.records.specs.Fill.{fits};
 ghost use Rattle.copy.specs.Copy.{room_of, given_at, copy_at_of};

@@ -1,6 +1,8 @@
 // Rows of a manifest over its MessagePack, in lent working tables: the input itself is the pool. Rows past the end of a table are
 // counted and not stored. Long chains of reads are cut in two and each arm returns, since a function's check costs its statements
 // times its locals.
+#![tactic(auto)]
+
 mod borrows_filled;
 mod heads_read;
 mod views_filled;
@@ -20,34 +22,34 @@ use tables::Window;
 use views_filled::{fill_runs, fill_views, store};
 
 // Where the next rows go: of the outer table (runs, borrows) and of the inner one (views, ids).
-#[derive(Drop)]
+#[derive(Clone, Copy)]
 pub struct Cursor {
     pub outer: usize,
     pub inner: usize,
 }
 
-#[derive(Drop)]
+#[derive(Clone, Copy)]
 pub enum Moved {
     At(usize, Cursor),
     Wrong(usize),
 }
 
 // A run before its views: how many elements and how many views it has.
-#[derive(Drop)]
+#[derive(Clone, Copy)]
 pub struct RunHead {
     pub parts: u64,
     pub id: u64,
     pub views: u64,
 }
 
-#[derive(Drop)]
+#[derive(Clone, Copy)]
 pub enum GotRunHead {
     Is(RunHead, usize),
     Wrong(usize),
 }
 
 // A borrow before its ids.
-#[derive(Drop)]
+#[derive(Clone, Copy)]
 pub struct BorrowHead {
     pub parts: u64,
     pub path: Place,
@@ -56,14 +58,14 @@ pub struct BorrowHead {
     pub ids: u64,
 }
 
-#[derive(Drop)]
+#[derive(Clone, Copy)]
 pub enum GotBorrowHead {
     Is(BorrowHead, usize),
     Wrong(usize),
 }
 
 // A tree before the views of its L0.
-#[derive(Drop)]
+#[derive(Clone, Copy)]
 pub struct TreeHead {
     pub parts: u64,
     pub view: ViewMark,
@@ -71,13 +73,13 @@ pub struct TreeHead {
     pub views: u64,
 }
 
-#[derive(Drop)]
+#[derive(Clone, Copy)]
 pub enum GotTreeHead {
     Is(TreeHead, usize),
     Wrong(usize),
 }
 
-#[derive(Drop)]
+#[derive(Clone, Copy)]
 pub enum GotTree {
     Is(TreeRow, usize, Cursor),
     Wrong(usize),
@@ -205,7 +207,7 @@ fn fill_segments(
 }
 
 // A manifest up to its segments: how many elements it has, and how many rows its trees.
-#[derive(Drop)]
+#[derive(Clone, Copy)]
 pub struct First {
     pub parts: u64,
     pub initialized: bool,
@@ -214,7 +216,7 @@ pub struct First {
     pub trees: Cursor,
 }
 
-#[derive(Drop)]
+#[derive(Clone, Copy)]
 pub enum GotFirst {
     Is(First, usize),
     Wrong(usize),
@@ -268,7 +270,7 @@ fn fill_lenders(s: &[u8], at: usize, borrows: &mut [u64], ids: &mut [u64]) -> Mo
 }
 
 // A manifest's row over the input, how many rows it has in each table, and the place after it.
-#[derive(Drop)]
+#[derive(Clone, Copy)]
 pub enum GotManifest {
     Is(ManifestRow, Fill, usize),
     Wrong(usize),

@@ -1,4 +1,6 @@
 // Values of a manifest at a place of its MessagePack: each key stays where it is, and its row says where that is in the input.
+#![tactic(auto)]
+
 ghost use Rattle.std.specs.Prelude.{◌≡◌};
 ghost use Rattle.manifest_values.specs.Read.{view_mark_at, sst_mark_at, final_at, numbers_at, epochs_at};
 ghost use Rattle.manifest_values.specs.Rows.{place_at, bound_by, bound_at, visible_at, last_at, view_at, name_at, got_place, got_bound, got_visible, got_last, got_view, got_final, got_view_mark, got_sst_mark, got_name, got_numbers, got_epochs};
@@ -10,7 +12,7 @@ use records::{Last, Name, Place, ViewRow, Visible};
 
 // ---- one value at a place: its row and the place after it, or the start of the first wrong value
 
-#[derive(Drop)]
+#[derive(Clone, Copy)]
 pub enum GotPlace {
     Is(Place, usize),
     Wrong(usize),
@@ -26,7 +28,7 @@ pub fn place_row(s: &[u8], at: usize) -> GotPlace
     }
 }
 
-#[derive(Drop)]
+#[derive(Clone, Copy)]
 pub enum GotBound {
     Is(Bound, usize),
     Wrong(usize),
@@ -63,7 +65,7 @@ pub fn bound_row(s: &[u8], at: usize) -> GotBound
     }
 }
 
-#[derive(Drop)]
+#[derive(Clone, Copy)]
 pub enum GotVisible {
     Is(Visible, usize),
     Wrong(usize),
@@ -94,7 +96,7 @@ pub fn visible_row(s: &[u8], at: usize) -> GotVisible
     }
 }
 
-#[derive(Drop)]
+#[derive(Clone, Copy)]
 pub enum GotLast {
     Is(Last, usize),
     Wrong(usize),
@@ -113,7 +115,7 @@ pub fn last_row(s: &[u8], at: usize) -> GotLast
     }
 }
 
-#[derive(Drop)]
+#[derive(Clone, Copy)]
 pub enum GotView {
     Is(ViewRow, usize),
     Wrong(usize),
@@ -156,7 +158,7 @@ pub fn view_row(s: &[u8], at: usize) -> GotView
     }
 }
 
-#[derive(Drop)]
+#[derive(Clone, Copy)]
 pub enum GotFinal {
     Is(Final, usize),
     Wrong(usize),
@@ -175,7 +177,7 @@ pub fn final_row(s: &[u8], at: usize) -> GotFinal
     }
 }
 
-#[derive(Drop)]
+#[derive(Clone, Copy)]
 pub enum GotViewMark {
     Is(ViewMark, usize),
     Wrong(usize),
@@ -194,7 +196,7 @@ pub fn view_mark_row(s: &[u8], at: usize) -> GotViewMark
     }
 }
 
-#[derive(Drop)]
+#[derive(Clone, Copy)]
 pub enum GotSstMark {
     Is(SstMark, usize),
     Wrong(usize),
@@ -213,7 +215,7 @@ pub fn sst_mark_row(s: &[u8], at: usize) -> GotSstMark
     }
 }
 
-#[derive(Drop)]
+#[derive(Clone, Copy)]
 pub enum GotName {
     Is(Name, usize),
     Wrong(usize),
@@ -233,7 +235,7 @@ pub fn name_row(s: &[u8], at: usize) -> GotName
 }
 
 // The numbers between the extractor's name and the borrows.
-#[derive(Drop)]
+#[derive(Clone, Copy)]
 pub struct Numbers {
     pub next_wal_sst_id: u64,
     pub replay_after_wal_id: u64,
@@ -242,7 +244,7 @@ pub struct Numbers {
     pub recent_snapshot_min_seq: u64,
 }
 
-#[derive(Drop)]
+#[derive(Clone, Copy)]
 pub enum GotNumbers {
     Is(Numbers, usize),
     Wrong(usize),
@@ -281,13 +283,13 @@ pub fn numbers_row(s: &[u8], at: usize) -> GotNumbers
     }
 }
 
-#[derive(Drop)]
+#[derive(Clone, Copy)]
 pub struct Epochs {
     pub writer: u64,
     pub compactor: u64,
 }
 
-#[derive(Drop)]
+#[derive(Clone, Copy)]
 pub enum GotEpochs {
     Is(Epochs, usize),
     Wrong(usize),

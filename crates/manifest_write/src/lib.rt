@@ -1,5 +1,7 @@
 // Manifests as MessagePack: the shortest forms, into a lent slice. The `add_` functions store where there is room and
 // only count where there is none; so one walk over the records gives the size, and the same walk the bytes.
+#![tactic(auto)]
+
 mod rows_put;
 mod values_put;
 
@@ -17,7 +19,7 @@ use tables::Window;
 use values_put::{add_array, add_flag, add_int, add_name, add_uint};
 
 // How many bytes were written, or why none were.
-#[derive(Drop)]
+#[derive(Clone, Copy)]
 pub enum Written {
     Done(usize),
     Refused(Refusal),

@@ -1,6 +1,8 @@
 // L1 and the measure: one walk over the records adds up what a manifest fills, and leaves at the first record that lies
 // outside, holds an unknown code or is too much. No sum is made before it is known to fit. A window's rows are counted before
 // the first of them is walked, so that windows that overlap cannot make the walk long.
+#![tactic(auto)]
+
 mod borrows_walked;
 mod trees_walked;
 mod views_walked;
@@ -16,7 +18,7 @@ pub use trees_walked::segment_row;
 use trees_walked::{segments_walk, tree_walk};
 
 // What a manifest fills, where it keeps L1. While walking: what the records so far fill.
-#[derive(Drop)]
+#[derive(Clone, Copy)]
 pub enum Measured {
     Broken,
     Fills(Fill),

@@ -1,4 +1,6 @@
 // The merges: a writer's tree with a compactor's, and the segment lists of two manifests.
+#![tactic(auto)]
+
 mod merge_faults;
 mod merge_laid;
 mod merge_steps;
@@ -23,21 +25,21 @@ use records::{Fill, Limits, ManifestRow, Place, Refusal, SegmentRow};
 use tables::Window;
 
 // Where the merged segment list stands in the output tables, or why there is none.
-#[derive(Drop)]
+#[derive(Clone, Copy)]
 pub enum Merged {
     Done(Window),
     Refused(Refusal),
 }
 
 // Whose manifest is merged in.
-#[derive(Drop)]
+#[derive(Clone, Copy)]
 pub enum Side {
     Writer,
     Compactor,
 }
 
 // The rows at the cursors: the one with the lower prefix, or both.
-#[derive(Drop)]
+#[derive(Clone, Copy)]
 enum MergeStep {
     End,
     WriterOnly(SegmentRow),
@@ -46,20 +48,20 @@ enum MergeStep {
 }
 
 // The segment that a step gives, or none.
-#[derive(Drop)]
+#[derive(Clone, Copy)]
 enum Keep {
     Nothing,
     Kept(SegmentRow),
 }
 
-#[derive(Drop)]
+#[derive(Clone, Copy)]
 struct Cursors {
     i: usize,
     j: usize,
 }
 
 // What a step gives, and the cursors past it.
-#[derive(Drop)]
+#[derive(Clone, Copy)]
 struct Next {
     keep: Keep,
     i: usize,
@@ -67,21 +69,21 @@ struct Next {
 }
 
 // Why a merge of lawful manifests is refused by its own rule, if it is.
-#[derive(Drop)]
+#[derive(Clone, Copy)]
 enum Fault {
     Nothing,
     Is(Refusal),
 }
 
 // Where something was found.
-#[derive(Drop)]
+#[derive(Clone, Copy)]
 enum Found {
     Nowhere,
     At(usize),
 }
 
 // Whether a step has data that is the compactor's only, and the cursors past it.
-#[derive(Drop)]
+#[derive(Clone, Copy)]
 struct Only {
     alone: bool,
     i: usize,
@@ -89,7 +91,7 @@ struct Only {
 }
 
 // What was kept so far: nothing, the last prefix with its index, or one that begins the next.
-#[derive(Drop)]
+#[derive(Clone, Copy)]
 enum Nest {
     Clear,
     Last(usize, Place),

@@ -1,5 +1,7 @@
 // MessagePack, read: first bytes, heads, skipping, well-formedness, values of one kind at a place.
 // Every place counts from the start of the slice handed over.
+#![tactic(auto)]
+
 mod first_bytes;
 mod values_read;
 mod values_skipped;
@@ -9,7 +11,7 @@ pub use values_read::{bin_at, flag_at, group_at, id_at, int_at, list_at, optiona
 pub use values_skipped::{rest_at, skip_many, skip_value, well_formed};
 
 // What a first byte says of a value.
-#[derive(Drop)]
+#[derive(Clone, Copy)]
 pub enum Kind {
     Never,
     Nil,
@@ -28,11 +30,11 @@ pub enum Kind {
 
 // A kind, the width of the number after the first byte, and the number that the first byte gives by itself
 // (of a signed number: the largest that its width holds).
-#[derive(Drop)]
+#[derive(Clone, Copy)]
 pub struct Form(pub Kind, pub usize, pub u64);
 
 // What stands at a place, with the place after it last.
-#[derive(Drop)]
+#[derive(Clone, Copy)]
 pub enum Head {
     // the input ends inside: more bytes could mend it
     Cut,
@@ -53,7 +55,7 @@ pub enum Head {
 }
 
 // The place after what was skipped, or the start of the first innermost bad value.
-#[derive(Drop)]
+#[derive(Clone, Copy)]
 pub enum Skipped {
     Past(usize),
     Bad(usize),
@@ -62,19 +64,19 @@ pub enum Skipped {
 // How many levels of arrays and maps a value may have.
 const DEEPEST: usize = 16;
 
-#[derive(Drop)]
+#[derive(Clone, Copy)]
 pub enum Whole {
     Good,
     Bad(usize),
 }
 
-#[derive(Drop)]
+#[derive(Clone, Copy)]
 pub enum Uint {
     Is(u64, usize),
     Wrong(usize),
 }
 
-#[derive(Drop)]
+#[derive(Clone, Copy)]
 pub enum Int {
     Is(i64, usize),
     Wrong(usize),
@@ -82,35 +84,35 @@ pub enum Int {
 
 const HALF: u64 = 0x8000_0000_0000_0000;
 
-#[derive(Drop)]
+#[derive(Clone, Copy)]
 pub enum Flag {
     Is(bool, usize),
     Wrong(usize),
 }
 
 // The first place and the length of the bytes, which stay where they are.
-#[derive(Drop)]
+#[derive(Clone, Copy)]
 pub enum Bin {
     Is(usize, usize, usize),
     Wrong(usize),
 }
 
 // The halves of 16 bytes.
-#[derive(Drop)]
+#[derive(Clone, Copy)]
 pub enum Id {
     Is(u64, u64, usize),
     Wrong(usize),
 }
 
 // An array: the count of its elements, and the place of the first.
-#[derive(Drop)]
+#[derive(Clone, Copy)]
 pub enum Group {
     Of(u64, usize),
     Wrong(usize),
 }
 
 // Nil, with the place after it; or something, at the place itself.
-#[derive(Drop)]
+#[derive(Clone, Copy)]
 pub enum Optional {
     Absent(usize),
     Present,

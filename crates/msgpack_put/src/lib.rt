@@ -1,5 +1,7 @@
 // MessagePack, written: shortest forms into a lent slice. Every writer asks for the room that it fills, stores its bytes
 // at a place, and answers the place after them; every `_len` says how many bytes its writer fills.
+#![tactic(auto)]
+
 ghost use Rattle.std.specs.Prelude.{◌≡◌, [], ◌∷◌, ◌+◌, ◌≤◌, ◌<◌, length, take, drop};
 ghost use Rattle.std.proofs.lemmas.List.Edits.{sets};
 ghost use Rattle.keys.specs.BigEndian.{be_bytes};
@@ -9,7 +11,7 @@ ghost use Rattle.msgpack_put.specs.Write.{uint_bytes, minus_bytes, int_bytes, fl
 // ---- the shortest form
 
 // A first byte, the width of the number after it, and that number.
-#[derive(Drop)]
+#[derive(Clone, Copy)]
 struct Tagged(u8, usize, u64);
 
 fn uint_form(x: u64) -> Tagged
@@ -49,7 +51,7 @@ fn minus_form(m: u64) -> Tagged
 }
 
 // Not negative, or minus one minus the number.
-#[derive(Drop)]
+#[derive(Clone, Copy)]
 enum Sign {
     Plus(u64),
     Minus(u64),

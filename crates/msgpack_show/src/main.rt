@@ -1,5 +1,7 @@
 // Prints what the table says of each of the 256 first bytes, in the lines that tools/first_bytes.py has an outside
 // implementation say; the file stdout is what that one said.
+#![tactic(auto)]
+
 use libc::STDOUT_FILENO;
 use msgpack::Kind;
 

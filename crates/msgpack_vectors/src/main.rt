@@ -1,5 +1,7 @@
 // Reads the vectors of tools/vectors.py, each behind its length in two bytes, and says of each whether it is well-formed and
 // what it is, or where it is bad; the file stdout is what the outside implementation said.
+#![tactic(auto)]
+
 ghost use Rattle.std.specs.Prelude.{◌<◌};
 
 use libc::{STDIN_FILENO, STDOUT_FILENO};

@@ -1,5 +1,7 @@
 // Projection on lent tables: what is left of the trees is measured and the SST ids of its views are listed, then what is left of the borrows is
 // measured, and then all is laid out.
+#![tactic(auto)]
+
 mod projected_laid;
 
 ghost use Rattle.std.specs.Prelude.{◌≡◌, ◌*◌, ◌/◌, length};
@@ -27,7 +29,7 @@ use records::{Fill, Limits, ManifestRow, Refusal};
 use tables::held;
 
 // How many segments the mask names, and the manifest; or why there is none.
-#[derive(Drop)]
+#[derive(Clone, Copy)]
 pub enum ProjectedAs {
     Done(usize, ManifestRow),
     Refused(Refusal),

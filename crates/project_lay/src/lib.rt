@@ -1,4 +1,6 @@
 // Projection's trees and segments, by what becomes of each: measured, the SST ids of their views listed, and laid out.
+#![tactic(auto)]
+
 mod left_laid;
 mod left_listed;
 mod left_measured;

@@ -1,5 +1,7 @@
 // What a projection asks of each tree: the filter, the own ranges, and what becomes of the tree. Every bound is a place in the
 // manifest's own pool; the own ranges stand in a table of six words a row.
+#![tactic(auto)]
+
 mod range_faults;
 mod ranges_owned;
 mod what_is_asked;
@@ -21,21 +23,21 @@ use what_is_asked::passes;
 pub use what_is_asked::{global_empty, highest_bit, is_noop, mask_over, names_count};
 
 // The global range, where one is set.
-#[derive(Drop)]
+#[derive(Clone, Copy)]
 pub enum Global {
     Unset,
     Set(Range),
 }
 
 // The filter: a flag for the unsegmented tree, and a mask with a bit for each segment.
-#[derive(Drop)]
+#[derive(Clone, Copy)]
 pub enum Filter {
     All,
     Only(bool, u64),
 }
 
 // What is asked for. Whether there is a table of own ranges; the table is lent beside it.
-#[derive(Drop)]
+#[derive(Clone, Copy)]
 pub struct ProjectionConfig {
     pub global_range: Global,
     pub segment_filter: Filter,
@@ -43,7 +45,7 @@ pub struct ProjectionConfig {
 }
 
 // An own range that is empty, or not contained in its prefix's, and the place of its tree.
-#[derive(Drop)]
+#[derive(Clone, Copy)]
 pub enum Fault {
     None,
     Empty(usize),
@@ -51,7 +53,7 @@ pub enum Fault {
 }
 
 // What becomes of a tree.
-#[derive(Drop)]
+#[derive(Clone, Copy)]
 pub enum SegmentAction {
     Drop,
     Project(Reach),

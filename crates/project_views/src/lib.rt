@@ -1,4 +1,6 @@
 // Views, runs and trees projected to a range: what is left of them is measured, and laid out by the emitter.
+#![tactic(auto)]
+
 mod view_ranges;
 mod views_ids;
 mod views_laid;
@@ -12,7 +14,7 @@ pub use views_laid::project_tree_in_place;
 pub use views_measured::{add_view, measure_tree_shown};
 
 // Where a range ends: at a bound, or at the successor of the prefix at this place.
-#[derive(Drop)]
+#[derive(Clone, Copy)]
 pub enum Until {
     Unbounded,
     Included(usize, usize),
@@ -21,21 +23,21 @@ pub enum Until {
 }
 
 // The range that a tree is projected to.
-#[derive(Drop)]
+#[derive(Clone, Copy)]
 pub struct Reach {
     pub start: Bound,
     pub end: Until,
 }
 
 // What is left of a view: nothing, or the view with its new visible range.
-#[derive(Drop)]
+#[derive(Clone, Copy)]
 pub enum Kept {
     Gone,
     Left(ViewRow, Reach),
 }
 
 // An end as bytes of the pool; where it is a successor, one is to be added to the last of them.
-#[derive(Drop)]
+#[derive(Clone, Copy)]
 pub struct Flat {
     pub end: Bound,
     pub grown: bool,

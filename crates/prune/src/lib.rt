@@ -1,5 +1,7 @@
 // Projection's last step: borrowed ids that no view uses go, then borrows with no ids. One pass over the borrowed ids to measure and one
 // to write, with a membership test over the ids in use for each: at the limits of L1 at most 512 times 512 comparisons of two words.
+#![tactic(auto)]
+
 ghost use Rattle.std.specs.Prelude.{◌≡◌, true, [], ◌∷◌, ◌+◌, ◌-◌, ◌*◌, ◌/◌, ◌≤◌, ◌<◌, length};
 ghost use Rattle.tables.specs.Layout.{write, joined};
 ghost use Rattle.ids.specs.Names.{ids_of};

@@ -1,5 +1,7 @@
 // The records of a manifest as they stand in six lent tables: segments, views, runs, borrows and ids as words, a fixed
 // number of words a row, and the pool as bytes. Every place counts from the start of the slice handed over.
+#![tactic(auto)]
+
 mod rows_read;
 mod rows_words;
 
@@ -16,28 +18,28 @@ pub use rows_words::{borrow_words, id_words, run_words, segment_words, view_word
 use tables::Window;
 
 // A byte string: so many bytes of the pool.
-#[derive(Drop)]
+#[derive(Clone, Copy)]
 pub struct Place {
     pub at: usize,
     pub len: usize,
 }
 
 // A view's last key.
-#[derive(Drop)]
+#[derive(Clone, Copy)]
 pub enum Last {
     Unknown,
     Known(Place),
 }
 
 // A view's visible range, or none.
-#[derive(Drop)]
+#[derive(Clone, Copy)]
 pub enum Visible {
     All,
     Only(Range),
 }
 
 // A view: 16 words a row.
-#[derive(Drop)]
+#[derive(Clone, Copy)]
 pub struct ViewRow {
     pub id: ViewId,
     pub sst: SstId,
@@ -47,14 +49,14 @@ pub struct ViewRow {
 }
 
 // A run: 3 words a row.
-#[derive(Drop)]
+#[derive(Clone, Copy)]
 pub struct RunRow {
     pub id: u64,
     pub views: Window,
 }
 
 // A tree: in a segment's row, or in the manifest's own value.
-#[derive(Drop)]
+#[derive(Clone, Copy)]
 pub struct TreeRow {
     pub view: ViewMark,
     pub sst: SstMark,
@@ -63,14 +65,14 @@ pub struct TreeRow {
 }
 
 // A segment: 12 words a row.
-#[derive(Drop)]
+#[derive(Clone, Copy)]
 pub struct SegmentRow {
     pub prefix: Place,
     pub tree: TreeRow,
 }
 
 // A borrow: 9 words a row. An id is 2 words.
-#[derive(Drop)]
+#[derive(Clone, Copy)]
 pub struct BorrowRow {
     pub path: Place,
     pub source: Uuid,
@@ -79,14 +81,14 @@ pub struct BorrowRow {
 }
 
 // The extractor's name, or none.
-#[derive(Drop)]
+#[derive(Clone, Copy)]
 pub enum Name {
     Absent,
     Named(Place),
 }
 
 // A manifest, with windows into the tables.
-#[derive(Drop)]
+#[derive(Clone, Copy)]
 pub struct ManifestRow {
     pub initialized: bool,
     pub tree: TreeRow,
@@ -103,7 +105,7 @@ pub struct ManifestRow {
 }
 
 // What some records fill: places in each table, and bytes of the pool.
-#[derive(Drop)]
+#[derive(Clone, Copy)]
 pub struct Fill {
     pub segments: usize,
     pub views: usize,
@@ -114,7 +116,7 @@ pub struct Fill {
 }
 
 // The limits of L1 as one value: what a manifest may fill, and how long each kind of byte string may be.
-#[derive(Drop)]
+#[derive(Clone, Copy)]
 pub struct Limits {
     pub fill: Fill,
     pub prefix: usize,
@@ -124,7 +126,7 @@ pub struct Limits {
 }
 
 // Document 01's refusals, each with its place; those whose place is always 0 hold none.
-#[derive(Drop)]
+#[derive(Clone, Copy)]
 pub enum Refusal {
     Unlawful(usize),
     OverLimit,
@@ -147,7 +149,7 @@ pub enum Refusal {
 }
 
 // A refusal as document 01 numbers it.
-#[derive(Drop)]
+#[derive(Clone, Copy)]
 pub struct Told {
     pub number: usize,
     pub place: usize,
@@ -254,7 +256,7 @@ pub fn limits_01() -> Limits
 }
 
 // A code and two numbers, as they stand in a row.
-#[derive(Drop)]
+#[derive(Clone, Copy)]
 pub struct Cell {
     pub code: u64,
     pub a: u64,
@@ -262,7 +264,7 @@ pub struct Cell {
 }
 
 // A visible range's code and its two bounds.
-#[derive(Drop)]
+#[derive(Clone, Copy)]
 pub struct Cells {
     pub code: u64,
     pub start: Cell,

@@ -4,6 +4,8 @@
 // Its form: a part is its length in two bytes, highest first, and so many bytes. stdin is a row of parts, one for each call; in
 // it stand the operation's number in one byte and the operation's parts.
 // replays: read lookup insert merge_from_writer merge_from_compactor select project owned clone
+#![tactic(auto)]
+
 mod answers;
 mod parts;
 

@@ -3,6 +3,8 @@
 // the prover as much as many with fewer. Its form: stdin is a row of MessagePack's byte strings, one for each union. In it stand three
 // more: the manifests one after the other, the paths so, and a row of numbers, which says where its four lists are.
 // replays: union
+#![tactic(auto)]
+
 use exports_forms::Answer;
 use keys::part;
 use libc::{STDIN_FILENO, STDOUT_FILENO};

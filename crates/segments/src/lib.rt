@@ -1,4 +1,6 @@
 // Lookup, place-finding and selection over a manifest's segments.
+#![tactic(auto)]
+
 ghost use Rattle.std.specs.Prelude.{◌≡◌, not, true, ◌+◌, ◌/◌, ◌<◌, length};
 ghost use Rattle.keys.specs.Key.{less_of};
 ghost use Rattle.keys.specs.Prefix.{under_of, after};
@@ -21,7 +23,7 @@ use records::{Limits, ManifestRow, Refusal, segment_at};
 use tables::{Window, held};
 
 // What a lookup answers.
-#[derive(Drop)]
+#[derive(Clone, Copy)]
 pub enum Looked {
     Unsegmented,
     Segment(usize),
@@ -30,7 +32,7 @@ pub enum Looked {
 }
 
 // What a selection answers: the window counts from the manifest's own first segment.
-#[derive(Drop)]
+#[derive(Clone, Copy)]
 pub enum Selected {
     Unsegmented,
     Window(usize, usize),

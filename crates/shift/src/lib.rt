@@ -1,4 +1,6 @@
 // Room made in a table: some words moved to the right within it.
+#![tactic(auto)]
+
 ghost use Rattle.std.specs.Prelude.{◌≡◌, ◌+◌, ◌-◌, ◌≤◌, length, take, drop};
 ghost use Rattle.tables.specs.Layout.{write};
 

@@ -1,10 +1,12 @@
 // Lent tables: windows of rows, and words and bytes put in their places.
+#![tactic(auto)]
+
 ghost use Rattle.std.specs.Prelude.{◌≡◌, ◌+◌, ◌≤◌, length};
 ghost use Rattle.tables.specs.Layout.{write};
 ghost use Rattle.tables.specs.Window.{lies_in, held_of};
 
 // Some rows of a table that follow each other.
-#[derive(Drop)]
+#[derive(Clone, Copy)]
 pub struct Window {
     pub first: usize,
     pub count: usize,

@@ -1,4 +1,6 @@
 // Union: up to eight sources in one set of lent tables.
+#![tactic(auto)]
+
 ghost use Rattle.std.specs.Prelude.{◌≡◌, ◌+◌, ◌/◌, ◌*◌, ◌≤◌, length, true, []};
 ghost use Rattle.borrows.specs.Clone.{uuids_of};
 ghost use Rattle.tables.specs.Layout.{over};
@@ -21,7 +23,7 @@ use unite_groups::{measure_groups, put_groups};
 use unite_trees::{measure_joined, put_joined};
 
 // The union's place in the output tables, or why there is none.
-#[derive(Drop)]
+#[derive(Clone, Copy)]
 pub enum United {
     Done(ManifestRow),
     Refused(Refusal),

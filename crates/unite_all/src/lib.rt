@@ -1,4 +1,6 @@
 // The whole union: sources and six lent tables in, the six output tables out.
+#![tactic(auto)]
+
 ghost use Rattle.std.specs.Prelude.{◌≡◌, true, false, ◌+◌, ◌*◌, ◌≤◌, length};
 ghost use Rattle.records.specs.Decode.{name_in};
 ghost use Rattle.lawful.specs.declared.Judged.TheVariants.{Lawful};

@@ -1,5 +1,7 @@
 // The borrows of a union: members entered one after the other into groups by path and id set, each group with its checkpoint. The groups
 // stand in a lent table, six words a row, their id sets in a lent working list, two words an id.
+#![tactic(auto)]
+
 mod group_borrows_laid;
 mod group_members;
 mod group_rows;
@@ -11,21 +13,21 @@ use records::Place;
 use tables::{Window, held};
 
 // The checkpoint that was supplied with a path, if any.
-#[derive(Drop)]
+#[derive(Clone, Copy)]
 pub enum Supplied {
     None,
     With(Uuid),
 }
 
 // How many groups there are, and how many ids of the working list their sets fill.
-#[derive(Drop)]
+#[derive(Clone, Copy)]
 pub struct Grouped {
     pub groups: usize,
     pub ids: usize,
 }
 
 // A group: 6 words a row.
-#[derive(Drop)]
+#[derive(Clone, Copy)]
 pub struct GroupRow {
     pub path: Place,
     pub checkpoint: Uuid,
@@ -33,7 +35,7 @@ pub struct GroupRow {
 }
 
 // A place among rows that ascend: how many are before it, and whether the row there is the same.
-#[derive(Drop)]
+#[derive(Clone, Copy)]
 pub struct Spot {
     pub at: usize,
     pub held: bool,

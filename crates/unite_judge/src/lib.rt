@@ -1,4 +1,6 @@
 // The arguments of a union: its sources' rows read and judged, and what all sources say together.
+#![tactic(auto)]
+
 ghost use Rattle.std.specs.Prelude.{◌≡◌, true, ◌+◌, ◌*◌, ◌≤◌, length};
 ghost use Rattle.records.specs.Row.{place_at};
 ghost use Rattle.measure.specs.Placed.{opened};

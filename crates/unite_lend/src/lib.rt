@@ -1,5 +1,7 @@
 // The borrows of a union's used sources: whether each has a final checkpoint, and all of them grouped. The used sources stand in order in
 // rows of seven words, the first the word at which the source's own row begins.
+#![tactic(auto)]
+
 ghost use Rattle.std.specs.Prelude.{◌≡◌, true, [], ◌+◌, ◌*◌, ◌≤◌, length, take};
 ghost use Rattle.tables.specs.Layout.{write, joined};
 ghost use Rattle.ids.specs.Names.{ids_of};

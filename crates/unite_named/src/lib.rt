@@ -1,4 +1,6 @@
 // The segments of a union with an extractor: for each prefix the trees that have views, joined in order.
+#![tactic(auto)]
+
 ghost use Rattle.std.specs.Prelude.{◌≡◌, true, ◌+◌, ◌*◌, ◌≤◌, length};
 ghost use Rattle.tables.specs.Layout.{write, joined};
 ghost use Rattle.records.specs.Row.{place_at};

@@ -1,5 +1,7 @@
 // The union of used sources in order without an extractor, and the borrows of every union, grouped. The used sources stand in rows of seven
 // words, the first the word at which the source's own row begins.
+#![tactic(auto)]
+
 ghost use Rattle.std.specs.Prelude.{◌≡◌, true, [], map, ◌+◌, ◌*◌, ◌≤◌, length};
 ghost use Rattle.records.specs.Model.{none};
 ghost use Rattle.borrows.specs.Clone.{uuids_of};

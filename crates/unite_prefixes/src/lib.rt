@@ -1,5 +1,7 @@
 // The union with an extractor: the refusals 14, 12 and 15, then 4 and 16, then the union laid. The used sources stand in order in rows of seven
 // words, the first the word at which the source's own row begins.
+#![tactic(auto)]
+
 ghost use Rattle.std.specs.Prelude.{◌≡◌, true, [], map, ◌+◌, ◌*◌, ◌≤◌, length};
 ghost use Rattle.borrows.specs.Clone.{uuids_of};
 ghost use Rattle.records.specs.Model.{named};

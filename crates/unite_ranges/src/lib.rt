@@ -1,4 +1,6 @@
 // Bounding ranges, and things arranged by the start of theirs.
+#![tactic(auto)]
+
 ghost use Rattle.std.specs.Prelude.{◌≡◌, [], ◌∷◌, ◌+◌, ◌*◌, ◌/◌, ◌≤◌, ◌<◌, length};
 ghost use Rattle.keys.specs.Key.{is_less};
 ghost use Rattle.keys.specs.Meet.{start_order};
@@ -21,7 +23,7 @@ use shift::shift_words;
 use tables::{Window, held, ix, put_words};
 
 // The range in which some views' effective ranges lie; no views have none.
-#[derive(Drop)]
+#[derive(Clone, Copy)]
 pub enum Bounded {
     None,
     Spans(Range),

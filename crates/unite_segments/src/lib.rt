@@ -1,4 +1,6 @@
 // Union with an extractor: the segments and the borrows laid as one manifest.
+#![tactic(auto)]
+
 ghost use Rattle.std.specs.Prelude.{◌≡◌, true, [], ◌++◌, ◌+◌, ◌*◌, ◌≤◌, length};
 ghost use Rattle.tables.specs.Layout.{write, over, joined};
 ghost use Rattle.records.specs.Model.{named};

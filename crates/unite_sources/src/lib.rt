@@ -1,5 +1,7 @@
 // Which sources are used, in which order, and which trees are joined. The sources stand in a table of 22 words a row over one set of
 // tables: at most eight, each with at most 64 segments and 512 views.
+#![tactic(auto)]
+
 mod prefix_lists;
 mod tree_shares;
 

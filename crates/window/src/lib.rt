@@ -1,5 +1,7 @@
 // The selected segments as a view of the caller's own segment table. The borrow checker covers no function over a struct that holds a
 // slice, so those are proved by hand and are few and thin: the work is done by functions on the slice and the numbers.
+#![tactic(auto)]
+
 ghost use Rattle.std.specs.Prelude.{◌≡◌, min, length};
 ghost use Rattle.window.specs.Rows.{part_in, shown, read_of, first_in, past_in, view_of, selected_in};
 
@@ -8,7 +10,7 @@ use segments::Selected;
 use tables::{Window, held};
 
 // Rows first..past of a table of segments.
-#[derive(Drop)]
+#[derive(Clone, Copy)]
 pub struct SegmentWindow<'a> {
     pub table: &'a [u64],
     pub first: usize,
@@ -16,7 +18,7 @@ pub struct SegmentWindow<'a> {
 }
 
 // What is read at a place of a window; there is nothing past its end.
-#[derive(Drop)]
+#[derive(Clone, Copy)]
 pub enum Read {
     Row(SegmentRow),
     Past,

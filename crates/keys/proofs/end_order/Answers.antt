@@ -1,0 +1,18 @@
+use borrow.Author.Rules.{rules}
+use Rattle.keys.proofs.Arms.{ends}
+use Rattle.keys.proofs.end_order.Goals as goal
+
+pub returns-in-Unbounded-b : goal.returns-in-Unbounded-b
+returns-in-Unbounded-b c = search (ends, rules)
+
+pub returns-in-Included-b : goal.returns-in-Included-b
+returns-in-Included-b c = search (ends, rules)
+
+pub returns-in-Excluded-b : goal.returns-in-Excluded-b
+returns-in-Excluded-b c = search (ends, rules)
+
+pub returns-in-Included : goal.returns-in-Included
+returns-in-Included c = search (ends, rules)
+
+pub returns-in-Excluded : goal.returns-in-Excluded
+returns-in-Excluded c = search (ends, rules)

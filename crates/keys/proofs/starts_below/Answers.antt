@@ -1,0 +1,12 @@
+use borrow.Author.Rules.{rules}
+use Rattle.keys.proofs.Emptying.{belows}
+use Rattle.keys.proofs.starts_below.Goals as goal
+
+pub returns-in-Unbounded : goal.returns-in-Unbounded
+returns-in-Unbounded c = search (belows, rules)
+
+pub returns-in-Included : goal.returns-in-Included
+returns-in-Included c = search (belows, rules)
+
+pub returns-in-Excluded : goal.returns-in-Excluded
+returns-in-Excluded c = search (belows, rules)
