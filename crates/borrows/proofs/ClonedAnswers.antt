@@ -6,7 +6,7 @@ use mathlib.Core.List.{List, []}
 use native.Mathlib.Omega.{arith}
 use lib.Dec.{ltb}
 use lib.ListN.{length}
-use borrow.Author.Tests.{not-true, not_false, lt-ltb, le-ltb}
+use borrow.Author.Tests.{not-true, not-false, lt-ltb, le-ltb}
 use Rattle.keys.specs.Pick.{pick}
 use Rattle.tables.specs.Layout.{over}
 use Rattle.tables.specs.Window.{held_of}
@@ -108,7 +108,7 @@ module _ (lim : Limits) (l : Lent) (m : ManifestRow) (path : List ℕ) (cp : Uui
 
           module _ (u : not b ≡ false) where
             pub given_room : fits (manifest_fill clone) (room_of o) ≡ true
-            given_room = room_tested ∙ not_false b u
+            given_room = room_tested ∙ not-false b u
 
             pub given_few : length ws / 2 < f.borrows → refused TooFewFresh o ≡ cloned_given lim from path cp (uuids_of ws) o
             unfolding cloned_given no_room

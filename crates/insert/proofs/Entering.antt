@@ -5,7 +5,7 @@ use mathlib.Core.Bool.{Bool, true, false, not}
 use mathlib.Core.List.{List, [], ◌∷◌}
 use native.Mathlib.Omega.{arith}
 use lib.ListN.{length}
-use borrow.Author.Tests.{not_false}
+use borrow.Author.Tests.{not-false}
 use Rattle.keys.specs.Pick.{pick}
 use Rattle.tables.specs.Window.{held_of}
 use Rattle.records.specs.Model.{Tree, Segment, Manifest}
@@ -139,7 +139,7 @@ module _ (lim : Limits) (x : Lent) (m : ManifestRow) (p : List ℕ) (o : Lent) (
       enter_short t = no_room_lem (rw (keeps.0, room_is) t)
 
       pub enter_fits : not r ≡ false → fits (manifest_fill (entered_at place p (manifest_in x m))) (room_of o) ≡ true
-      enter_fits t = room_is ∙ not_false r t
+      enter_fits t = room_is ∙ not-false r t
 
       pub enter_done : not r ≡ false → (y : Outcome) → y ≡ laid_entry o (entered place (entered_at place p (manifest_in x m))) → y ≡ laid_entry o (entered_of lim (room_of o) (manifest_in x m) p)
       unfolding entered_of no_room

@@ -1,7 +1,7 @@
 -- The first broken rule, by the tests that the code makes one after the other. Assumes nothing.
 use mathlib.Core.Path.{◌≡◌, sym, ap, ◌∙◌}
 use mathlib.Core.Bool.{Bool, true, false, not, ◌&&◌}
-use borrow.Author.Tests.{not_false}
+use borrow.Author.Tests.{not-false}
 use Rattle.records.specs.Decode.{Lent, manifest_in}
 use Rattle.records.specs.declared.Limits.{Limits}
 use Rattle.records.specs.declared.ManifestRow.{ManifestRow}
@@ -22,7 +22,7 @@ module _ (lim : Limits) (l : Lent) (m : ManifestRow) (r1 : Bool) (e1 : r1 ≡ l1
 
     module _ (k2 : not r2 ≡ false) (r3 : Bool) (e3 : r3 ≡ (l2_of (manifest_in l m) && l3_of (manifest_in l m))) where
       is_third : r3 ≡ l3_of (manifest_in l m)
-      is_third = e3 ∙ rw (sym e2 ∙ not_false r2 k2)
+      is_third = e3 ∙ rw (sym e2 ∙ not-false r2 k2)
 
       pub breaks_3 : not r3 ≡ true → Breaks 3 ≡ judged_of lim l m
       unfolding judged_of

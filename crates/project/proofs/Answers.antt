@@ -7,7 +7,7 @@ use native.Mathlib.Omega.{arith}
 use lib.Dec.{ltb}
 use lib.ListN.{length, take, drop, length-append}
 use lib.Seq.{take-append_seam}
-use borrow.Author.Tests.{not-true, not_false, lt-ltb, le-ltb}
+use borrow.Author.Tests.{not-true, not-false, lt-ltb, le-ltb}
 use Rattle.keys.specs.Pick.{pick}
 use Rattle.ids.specs.Names.{ids_of}
 use Rattle.ids.specs.declared.SstId.{SstId}
@@ -167,12 +167,12 @@ module _ (lim : Limits) (names : ℕ) (l : Lent) (m : ManifestRow) (x : Config) 
 
           module _ (g : not b ≡ false) where
             pub listed_room : fits (plus empty (manifest_fill result)) (room_of o) ≡ true
-            listed_room = rw (empty_plus (manifest_fill result)) (room_tested ∙ not_false b g)
+            listed_room = rw (empty_plus (manifest_fill result)) (room_tested ∙ not-false b g)
 
             pub listed_done : (r : ManifestRow) (o' : Lent) → r ≡ manifest_row_at empty result → o' ≡ laid_at empty o (layout_at empty result)
                 → ◌≡◌ {A = Outcome} (record { answer = Done names r; out = o' }) (filled_to lim names result o)
             unfolding filled_to no_room
-            listed_done r o' e y = rw (within_limit, room_tested ∙ not_false b g) (rw (e ∙ row_front result, y ∙ laid_front (layout_at empty result) ∙ ap (laid_over o) (layout_front result)))
+            listed_done r o' e y = rw (within_limit, room_tested ∙ not-false b g) (rw (e ∙ row_front result, y ∙ laid_front (layout_at empty result) ∙ ap (laid_over o) (layout_front result)))
 
   -- ---- the trees measured, and the ids listed
 

@@ -6,7 +6,7 @@ use mathlib.Core.List.{List, []}
 use native.Mathlib.Omega.{arith}
 use lib.Dec.{ltb}
 use lib.ListN.{length}
-use borrow.Author.Tests.{not-true, not_false, lt-ltb, le-ltb}
+use borrow.Author.Tests.{not-true, not-false, lt-ltb, le-ltb}
 use Rattle.keys.specs.Pick.{pick}
 use Rattle.tables.specs.Layout.{over}
 use Rattle.records.specs.Model.{Manifest}
@@ -71,7 +71,7 @@ module _ (lim : Limits) (result : Manifest) (part : Fill) (ms : List Member) (ws
 
       module _ (u : not b ≡ false) where
         pub given_room : fits part (room_of o) ≡ true
-        given_room = rw (← fill_is) (room_tested ∙ not_false b u)
+        given_room = rw (← fill_is) (room_tested ∙ not-false b u)
 
         module _ (n : ℕ) (c : n ≡ length ms) where
           counted : length result.borrows ≡ n
@@ -81,7 +81,7 @@ module _ (lim : Limits) (result : Manifest) (part : Fill) (ms : List Member) (ws
           unfolding union_to no_room refuses15_all
           given_few g =
               let v : ltb (length (uuids_of ws)) (length result.borrows) ≡ true = rw (uuids_long ws, counted) (lt-ltb (length ws / 2) n g) in
-              rw (small, room_tested ∙ not_false b u, v)
+              rw (small, room_tested ∙ not-false b u, v)
 
           pub given_done : n ≤ length ws / 2 → (r : ManifestRow) (segments views runs borrows ids pool : List ℕ) → r ≡ manifest_row result
               → segments ≡ over o.segments (layout result).segments → views ≡ over o.views (layout result).views → runs ≡ over o.runs (layout result).runs
@@ -90,4 +90,4 @@ module _ (lim : Limits) (result : Manifest) (part : Fill) (ms : List Member) (ws
           unfolding union_to no_room refuses15_all
           given_done g r sx vx rx bx ix px e0 e1 e2 e3 e4 e5 e6 =
               let v : ltb (length (uuids_of ws)) (length result.borrows) ≡ false = rw (uuids_long ws, counted) (le-ltb (length ws / 2) n g) in
-              rw (small, room_tested ∙ not_false b u, v) (rw (e0, e1, e2, e3, e4, e5, e6))
+              rw (small, room_tested ∙ not-false b u, v) (rw (e0, e1, e2, e3, e4, e5, e6))

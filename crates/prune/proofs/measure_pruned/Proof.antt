@@ -3,7 +3,7 @@ use mathlib.Core.Path.{sym, ap, ◌∙◌}
 use native.Mathlib.Omega.{arith}
 use lib.ListN.{length}
 use borrow.Author.Rules.{rules}
-use borrow.Author.Tests.{not-true, not_false}
+use borrow.Author.Tests.{not-true, not-false}
 use Rattle.ids.specs.Names.{ids_of}
 use Rattle.tables.proofs.Windows.{held_in}
 use Rattle.records.specs.Fill.{sum, borrow_fill}
@@ -29,7 +29,7 @@ measure_pruned_spec =
     (λ c κs. search rules)  -- fits-in-requires
     (λ c. add_over _ _ _ _ c.before.fits_in.ensures (not-true _ c.if1.true))  -- returns
     (λ c κs. search rules)  -- held-requires
-    (λ c. summed_none (sym c.before.before.fits_in.ensures ∙ not_false _ c.before.if1.false))  -- loop-holds
+    (λ c. summed_none (sym c.before.before.fits_in.ensures ∙ not-false _ c.before.if1.false))  -- loop-holds
     (λ c. omega (arith, held_in c.before.before.before.before.before.before.before.before.before.args.w (length c.before.before.before.before.before.before.before.before.before.args.borrows.now / 9) c.before.loop.k (omega arith)))  -- add-add-kept-at
     (λ c κs. (held_in c.before.before.before.before.before.before.before.before.before.args.w (length c.before.before.before.before.before.before.before.before.before.args.borrows.now / 9) c.before.loop.k (omega arith), summed_fits c.before.loop.invariant))  -- add-kept-at-requires
     (λ c. search rules)  -- enum-known-s

@@ -1,5 +1,5 @@
 use Rattle.unite_judge.proofs.Judging.{codes_broken, codes_kept}
-use borrow.Author.Tests.{not-true, not_false}
+use borrow.Author.Tests.{not-true, not-false}
 use borrow.Author.Rules.{rules}
 use Rattle.unite_judge.proofs.source_judged.Statement.{statement}
 use Rattle.unite_judge.proofs.source_judged.Tie as tie
@@ -12,4 +12,4 @@ source_judged_spec =
     (λ c. search (codes_broken, not-true, rules))  -- returns
     (λ c κs. search rules)  -- source-manifest-requires
     (λ c κs. search rules)  -- lawful-requires
-    (λ c. search (codes_kept, not_false, rules)))  -- returns-2
+    (λ c. search (codes_kept, not-false, rules)))  -- returns-2

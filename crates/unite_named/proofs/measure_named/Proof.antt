@@ -2,7 +2,7 @@ use Prim.Native.Nat.{◌-◌}
 use mathlib.Core.Path.{◌≡◌, refl, sym, ap, ◌∙◌}
 use native.Mathlib.Omega.{arith}
 use lib.ListN.{length}
-use borrow.Author.Tests.{not-true, not_false}
+use borrow.Author.Tests.{not-true, not-false}
 use borrow.Author.Rules.{rules}
 use Rattle.records.specs.Fill.{sum, segment_fill}
 use Rattle.measure.specs.Walk.{add_of}
@@ -28,7 +28,7 @@ measure_named_spec =
     decreases-loop
     (λ c κs. search rules)  -- fits-in-requires
     (λ c. (add_over _ _ _ _ c.before.fits_in.ensures (not-true _ c.if1.true), refl))  -- returns
-    (λ c. (summed_none (sym c.before.fits_in.ensures ∙ not_false _ c.if1.false), refl))  -- loop-holds
+    (λ c. (summed_none (sym c.before.fits_in.ensures ∙ not-false _ c.if1.false), refl))  -- loop-holds
     (λ c κs. (c.before.before.before.before.before.before.before.before.before.before.before.before.before.requires.0, (omega (arith, c.before.before.before.before.before.before.before.before.before.before.before.before.before.requires.1.0, c.before.before.loop.invariant.1), (omega (arith, c.before.before.before.before.before.before.before.before.before.before.before.before.before.requires.1.1, c.before.loop-test.true), summed_fits c.before.before.loop.invariant.0))))  -- add-segment-at-requires
     (λ c. search rules)  -- enum-known-s
     (λ c. search rules)  -- enum_told

@@ -1,6 +1,6 @@
 use Prim.Native.Nat.{◌-◌, ◌*◌}
 use mathlib.Core.Path.{ap}
-use borrow.Author.Tests.{not-true, not_false}
+use borrow.Author.Tests.{not-true, not-false}
 use Rattle.records.specs.Decode.{name_in}
 use Rattle.unite_sources.specs.Rows.{name_at_word}
 use Rattle.unite_sources.proofs.Naming.{Agreeing, agreeing_none, agreeing_more, agreeing_met, agreeing_all}
@@ -27,5 +27,5 @@ names_differ_spec =
     (λ c. agreeing_met c.before.before.before.loop.invariant _ c.before.before.loop-test.true c.before.is-named.ensures (not-true _ c.if1.true))  -- returns
     (λ c. search rules)  -- add-i
     (λ c. search rules)  -- loop-less
-    (λ c. agreeing_more c.before.before.before.loop.invariant _ c.before.before.loop-test.true c.before.is-named.ensures (not_false _ c.if1.false))  -- loop-again
+    (λ c. agreeing_more c.before.before.before.loop.invariant _ c.before.before.loop-test.true c.before.is-named.ensures (not-false _ c.if1.false))  -- loop-again
     (λ c. agreeing_all c.before.loop.invariant c.loop-test.false))  -- returns-2

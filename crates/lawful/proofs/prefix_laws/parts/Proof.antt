@@ -7,7 +7,7 @@ use Rattle.keys.specs.Prefix.{begins_of}
 use Rattle.tables.specs.Window.{held_of}
 use Rattle.measure.specs.Tests.{all_below}
 use Rattle.lawful.specs.Steps.{prefix_at}
-use borrow.Author.Tests.{not-true, not_false}
+use borrow.Author.Tests.{not-true, not-false}
 use Rattle.lawful.proofs.Loops.{Passed, passed_none, loops, gaps, gaps_are}
 use Rattle.lawful.proofs.prefix_laws.parts.Statement.{statement}
 use Rattle.lawful.proofs.prefix_laws.parts.Tie as tie
@@ -34,5 +34,5 @@ parts_spec =
     (λ c. search (loops, not-true, rules))  -- returns
     (λ c. search (gaps, rules))  -- add-k
     (λ c. search rules)  -- loop-less
-    (λ c. search (loops, not_false, rules))  -- loop-again
+    (λ c. search (loops, not-false, rules))  -- loop-again
     (λ c. search (loops, rules)))  -- returns-2

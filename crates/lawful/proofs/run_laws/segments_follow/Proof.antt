@@ -6,7 +6,7 @@ use Rattle.measure.specs.Tests.{all_of}
 use Rattle.measure.specs.Within.{tree_runs}
 use Rattle.lawful.specs.Law.{run_lawful}
 use Rattle.lawful.proofs.Rules.{segments_all}
-use borrow.Author.Tests.{not-true, not_false}
+use borrow.Author.Tests.{not-true, not-false}
 use Rattle.lawful.proofs.Loops.{Passed, passed_none, loops, rows}
 use Rattle.lawful.proofs.run_laws.segments_follow.Statement.{statement}
 use Rattle.lawful.proofs.run_laws.segments_follow.Tie as tie
@@ -31,5 +31,5 @@ segments_follow_spec =
     (λ c. search (loops, not-true, rules))  -- returns
     (λ c. search (rows, rules))  -- add-k
     (λ c. search rules)  -- loop-less
-    (λ c. search (loops, not_false, rules))  -- loop-again
+    (λ c. search (loops, not-false, rules))  -- loop-again
     (λ c. search (loops, rules)))  -- returns-2

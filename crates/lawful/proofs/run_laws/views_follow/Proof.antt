@@ -5,7 +5,7 @@ use Rattle.records.specs.Decode.{view_in, views_in}
 use Rattle.measure.specs.Tests.{chain}
 use Rattle.lawful.specs.Law.{follows}
 use Rattle.lawful.proofs.Rules.{views_chain}
-use borrow.Author.Tests.{not-true, not_false}
+use borrow.Author.Tests.{not-true, not-false}
 use Rattle.lawful.proofs.Loops.{Passed, passed_none, loops, gaps, gaps_are}
 use Rattle.lawful.proofs.run_laws.views_follow.Statement.{statement}
 use Rattle.lawful.proofs.run_laws.views_follow.Tie as tie
@@ -32,5 +32,5 @@ views_follow_spec =
     (λ c. search (loops, not-true, rules))  -- returns
     (λ c. search (gaps, rules))  -- add-k
     (λ c. search rules)  -- loop-less
-    (λ c. search (loops, not_false, rules))  -- loop-again
+    (λ c. search (loops, not-false, rules))  -- loop-again
     (λ c. search (loops, rules)))  -- returns-2

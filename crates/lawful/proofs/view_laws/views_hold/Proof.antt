@@ -5,7 +5,7 @@ use Rattle.records.specs.Decode.{view_in, views_in}
 use Rattle.measure.specs.Tests.{all_of}
 use Rattle.lawful.specs.Law.{view_lawful}
 use Rattle.lawful.proofs.Rules.{views_all}
-use borrow.Author.Tests.{not-true, not_false}
+use borrow.Author.Tests.{not-true, not-false}
 use Rattle.lawful.proofs.Loops.{Passed, passed_none, loops, rows}
 use Rattle.lawful.proofs.view_laws.views_hold.Statement.{statement}
 use Rattle.lawful.proofs.view_laws.views_hold.Tie as tie
@@ -29,5 +29,5 @@ views_hold_spec =
     (λ c. search (loops, not-true, rules))  -- returns
     (λ c. search (rows, rules))  -- add-k
     (λ c. search rules)  -- loop-less
-    (λ c. search (loops, not_false, rules))  -- loop-again
+    (λ c. search (loops, not-false, rules))  -- loop-again
     (λ c. search (loops, rules)))  -- returns-2

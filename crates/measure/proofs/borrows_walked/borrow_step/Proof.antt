@@ -1,5 +1,5 @@
 use borrow.Author.Rules.{rules}
-use borrow.Author.Tests.{not-true, not_false}
+use borrow.Author.Tests.{not-true, not-false}
 use Rattle.keys.proofs.Picks.{picks, pick_here}
 use Rattle.measure.specs.Walk.{borrow_walk}
 use Rattle.measure.proofs.borrows_walked.borrow_step.Statement.{statement}
@@ -15,7 +15,7 @@ borrow_step_spec =
     (λ c. search rules)  -- mul-is-code
     (λ c. search rules)  -- shared-slice-read-is-code
     (λ c κs. search rules)  -- is-code-requires
-    (λ c. search (picks, not-true, not_false, rules))  -- returns
+    (λ c. search (picks, not-true, not-false, rules))  -- returns
     (λ c κs. search rules)  -- borrow-at-requires
     (λ c κs. search rules)  -- borrow-row-requires
-    (λ c. pick_here _ _ _ _ _ _ c.before.before.before.is_code.ensures (not_false _ c.before.before.if1.false) (rw c.before.borrow-at.ensures at c.borrow_row_lem.ensures)))  -- returns-2
+    (λ c. pick_here _ _ _ _ _ _ c.before.before.before.is_code.ensures (not-false _ c.before.before.if1.false) (rw c.before.borrow-at.ensures at c.borrow_row_lem.ensures)))  -- returns-2

@@ -1,5 +1,5 @@
 use borrow.Author.Rules.{rules}
-use borrow.Author.Tests.{not-true, not_false}
+use borrow.Author.Tests.{not-true, not-false}
 use Rattle.keys.proofs.Picks.{picks}
 use Rattle.measure.specs.Walk.{window_walk}
 use Rattle.measure.proofs.views_walked.window_step.Statement.{statement}
@@ -11,6 +11,6 @@ window_step_spec =
     tie.close
     (tie.spec
     (λ c κs. search rules)  -- lies-in-requires
-    (λ c. search (picks, not-true, not_false, rules))  -- returns
+    (λ c. search (picks, not-true, not-false, rules))  -- returns
     (λ c κs. search rules)  -- add-requires
-    (λ c. search (picks, not-true, not_false, rules)))  -- returns-2
+    (λ c. search (picks, not-true, not-false, rules)))  -- returns-2

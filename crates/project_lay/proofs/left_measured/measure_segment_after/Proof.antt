@@ -1,4 +1,4 @@
-use borrow.Author.Tests.{not-true, not_false}
+use borrow.Author.Tests.{not-true, not-false}
 use Rattle.records.specs.Decode.{segment_in}
 use Rattle.project_ranges.specs.Args.{action_in}
 use Rattle.project_lay.proofs.Adds.{segment_gone, segment_broken, segment_added}
@@ -16,7 +16,7 @@ measure_segment_after_spec =
     (λ c κs. search rules)  -- measure-tree-after-requires
     (λ c. c.match.keys1)  -- enum-known-u
     (λ c. c.match.keys2)  -- enum_told
-    (λ c. let a = c.before.before.before.before.before.before.before.before.before.args in segment_broken a.lim.fill (action_in a.pool.now a.a) (segment_in a.runs.now a.views.now a.pool.now a.s) a.c _ c.before.before.before.before.stays.ensures (not_false _ c.before.before.before.if1.false) _ c.before.before.measure-tree-after.ensures c.enum_told.given.1)  -- returns-2
+    (λ c. let a = c.before.before.before.before.before.before.before.before.before.args in segment_broken a.lim.fill (action_in a.pool.now a.a) (segment_in a.runs.now a.views.now a.pool.now a.s) a.c _ c.before.before.before.before.stays.ensures (not-false _ c.before.before.before.if1.false) _ c.before.before.measure-tree-after.ensures c.enum_told.given.1)  -- returns-2
     (λ c κs. tt)  -- part-requires
     (λ c κs. tt)  -- add-requires
-    (λ c. let a = c.before.before.before.before.before.before.before.before.before.before.before.before.before.args in segment_added a.lim.fill (action_in a.pool.now a.a) (segment_in a.runs.now a.views.now a.pool.now a.s) a.c _ c.before.before.before.before.before.before.before.before.stays.ensures (not_false _ c.before.before.before.before.before.before.before.if1.false) _ c.before.before.before.before.before.before.measure-tree-after.ensures _ _ _ c.before.before.before.before.u.given.1 c.before.part.ensures c.add.ensures))  -- returns-3
+    (λ c. let a = c.before.before.before.before.before.before.before.before.before.before.before.before.before.args in segment_added a.lim.fill (action_in a.pool.now a.a) (segment_in a.runs.now a.views.now a.pool.now a.s) a.c _ c.before.before.before.before.before.before.before.before.stays.ensures (not-false _ c.before.before.before.before.before.before.before.if1.false) _ c.before.before.before.before.before.before.measure-tree-after.ensures _ _ _ c.before.before.before.before.u.given.1 c.before.part.ensures c.add.ensures))  -- returns-3

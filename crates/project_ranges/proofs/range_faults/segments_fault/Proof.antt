@@ -1,6 +1,6 @@
 use borrow.Author.Rules.{rules}
 use Prim.Native.Nat.{◌+◌, ◌-◌}
-use borrow.Author.Tests.{not-true, not_false}
+use borrow.Author.Tests.{not-true, not-false}
 use Rattle.lawful.proofs.Loops.{rows}
 use Rattle.lawful.specs.Steps.{prefix_at}
 use Rattle.segments.specs.Prefixes.{prefixes_in}
@@ -30,8 +30,8 @@ segments_fault_spec =
     (λ c. search (rows, rules))  -- add-segment-fault-2
     (λ c κs. search (rows, rules))  -- segment-fault-requires
     (λ c κs. search rules)  -- is-none-requires
-    (λ c. search (sounds, not-true, not_false, rules))  -- returns
+    (λ c. search (sounds, not-true, not-false, rules))  -- returns
     (λ c. search rules)  -- add-k
     (λ c. search rules)  -- loop-less
-    (λ c. search (sounds, not-true, not_false, rules))  -- loop-again
-    (λ c. search (sounds, not-true, not_false, rules)))  -- returns-2
+    (λ c. search (sounds, not-true, not-false, rules))  -- loop-again
+    (λ c. search (sounds, not-true, not-false, rules)))  -- returns-2

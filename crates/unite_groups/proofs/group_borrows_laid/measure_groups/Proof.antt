@@ -3,7 +3,7 @@ use lib.Arith.{sub_dec}
 use mir.Facts.{Fits-le}
 use Prim.Native.Nat.{◌-◌}
 use mathlib.Core.Path.{sym, ◌∙◌}
-use borrow.Author.Tests.{not-true, not_false}
+use borrow.Author.Tests.{not-true, not-false}
 use Rattle.project_views.proofs.Summed.{Summed, summed_none, summed_more, summed_broken, summed_all}
 use Rattle.unite_groups.specs.Chosen.{member_fill}
 use Rattle.unite_groups.specs.Rows.{member_at, members_in}
@@ -27,7 +27,7 @@ measure_groups_spec =
     decreases-loop
     (λ c κs. tt)  -- fits-in-requires
     (λ c. over_before _ _ _ _ c.before.fits_in.ensures (not-true _ c.if1.true))  -- returns
-    (λ c. summed_none (sym c.before.fits_in.ensures ∙ not_false _ c.if1.false))  -- loop-holds
+    (λ c. summed_none (sym c.before.fits_in.ensures ∙ not-false _ c.if1.false))  -- loop-holds
     (λ c κs. search rules)  -- group-fill-requires
     (λ c κs. tt)  -- add-requires
     (λ c. c.match.keys1)  -- enum_told

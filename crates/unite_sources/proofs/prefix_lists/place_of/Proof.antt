@@ -1,5 +1,5 @@
 use Prim.Native.Nat.{◌-◌}
-use borrow.Author.Tests.{not-true, not_false}
+use borrow.Author.Tests.{not-true, not-false}
 use Rattle.keys.specs.Key.{less_of}
 use Rattle.segments.proofs.Fronts.{Led, leads}
 use Rattle.unite_sources.specs.Rows.{places_in}
@@ -25,5 +25,5 @@ place_of_spec =
     (λ c. search (leads, not-true, rules))  -- returns
     (λ c. search rules)  -- add-k
     (λ c. search rules)  -- loop-less
-    (λ c. search (leads, not_false, rules))  -- loop-again
+    (λ c. search (leads, not-false, rules))  -- loop-again
     (λ c. search (leads, rules)))  -- returns-2

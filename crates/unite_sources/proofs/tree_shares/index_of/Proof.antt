@@ -1,7 +1,7 @@
 use borrow.Author.Rules.{rules}
 use Prim.Native.Nat.{◌+◌, ◌-◌}
 use mathlib.Core.Bool.{not}
-use borrow.Author.Tests.{not-true, not_false}
+use borrow.Author.Tests.{not-true, not-false}
 use Rattle.lawful.proofs.Loops.{rows}
 use Rattle.lawful.specs.Steps.{prefix_at}
 use Rattle.segments.specs.Prefixes.{prefixes_in}
@@ -30,5 +30,5 @@ index_of_spec =
     (λ c. search (leads, not-true, rules))  -- returns
     (λ c. search (rows, rules))  -- add-k
     (λ c. search rules)  -- loop-less
-    (λ c. search (leads, not_false, rules))  -- loop-again
+    (λ c. search (leads, not-false, rules))  -- loop-again
     (λ c. search (leads, rules)))  -- returns-2

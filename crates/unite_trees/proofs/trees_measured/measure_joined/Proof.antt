@@ -4,7 +4,7 @@ use mir.Facts.{Fits-le}
 use native.Mathlib.Omega.{arith}
 use Prim.Native.Nat.{◌-◌}
 use mathlib.Core.Path.{sym, ap, ◌∙◌}
-use borrow.Author.Tests.{not-true, not_false}
+use borrow.Author.Tests.{not-true, not-false}
 use Rattle.tables.specs.Layout.{up_to}
 use Rattle.records.specs.Fill.{tree_fill}
 use Rattle.measure.specs.Walk.{add_of}
@@ -31,7 +31,7 @@ measure_joined_spec =
     decreases-loop
     (λ c κs. tt)  -- fits-in-requires
     (λ c. add_over _ _ _ _ c.before.fits_in.ensures (not-true _ c.if1.true))  -- returns
-    (λ c. summed_none (sym c.before.fits_in.ensures ∙ not_false _ c.if1.false))  -- loop-holds
+    (λ c. summed_none (sym c.before.fits_in.ensures ∙ not-false _ c.if1.false))  -- loop-holds
     (λ c κs. (omega arith, summed_fits c.before.loop.invariant))  -- add-tree-at-requires
     (λ c. c.match.keys1)  -- enum-known-s
     (λ c. c.match.keys2)  -- enum_told
