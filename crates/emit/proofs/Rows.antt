@@ -18,7 +18,7 @@ use Rattle.emit.specs.declared.LaidView.{LaidView}
 use Rattle.records.proofs.Columns.{view_fill_lem, views_fill, views_long, id_fill, ids_fill}
 use Rattle.emit.proofs.Columns.{runs_counted, views_bytes_long, views_no_runs}
 use Rattle.records.proofs.Sums.{fill_same, plus_assoc, plus_empty}
-use Rattle.records.proofs.Laid.{segments, views, runs, ids, pool, at}
+use Rattle.records.proofs.Laid.{views, runs, ids, pool, at}
 use Rattle.emit.proofs.Laid.{put_then, put_skip}
 use Rattle.records.specs.declared.Place.{Place}
 use Rattle.records.specs.declared.Name.{Name}

@@ -1,0 +1,24 @@
+use borrow.Author.Rules.{rules}
+use Rattle.emit.proofs.Keys.{laid_keys, last_known}
+use Rattle.emit.proofs.views_put.put_last.Goals as goal
+
+pub enum_told-1 : goal.enum_told-1
+enum_told-1 c = search (laid_keys, rules)
+
+pub enum_known-l : goal.enum_known-l
+enum_known-l c = search (laid_keys, rules)
+
+pub put_part-past-requires : goal.put_part-past-requires
+put_part-past-requires c = search (laid_keys, rules)
+
+pub overflow_sub-result : goal.overflow_sub-result
+overflow_sub-result c = search (laid_keys, rules)
+
+pub returns-in-Unknown : goal.returns-in-Unknown
+returns-in-Unknown c = search (laid_keys, rules, c.in-Unknown.is)
+
+pub shape_of-out_pool : goal.shape_of-out_pool
+shape_of-out_pool c = search (laid_keys, rules)
+
+pub returns-in-Known : goal.returns-in-Known
+returns-in-Known c = let a = c.args in let whole = last_known a.pool.now a.out_pool.now a.at _ _ _ _ c.in-Known.is c.put_part-past.ensures.value c.put_part-past.ensures.out_pool_after in record { value = whole.0; out_pool_after = whole.1 }
