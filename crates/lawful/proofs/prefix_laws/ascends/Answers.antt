@@ -1,0 +1,32 @@
+use borrow.Author.Rules.{rules}
+use mathlib.Core.Path.{refl}
+use borrow.Author.Tests.{not-true, not-false}
+use Rattle.lawful.proofs.Loops.{passed_none, loops, gaps, gaps_are}
+use Rattle.lawful.proofs.prefix_laws.ascends.Goals as goal
+
+pub loop-k-init : goal.loop-k-init
+loop-k-init c = passed_none _ _ _ _ (gaps_are _ _ _ _ _ 0 c.held.ensures c.gaps-n.ensures) refl
+
+pub overflow_add-w : goal.overflow_add-w
+overflow_add-w c = search (gaps, rules)
+
+pub overflow_add-k : goal.overflow_add-k
+overflow_add-k c = search (gaps, rules)
+
+pub overflow_add-w-in-loop-k : goal.overflow_add-w-in-loop-k
+overflow_add-w-in-loop-k c = search (gaps, rules)
+
+pub is_step-requires : goal.is_step-requires
+is_step-requires c = search (gaps, rules)
+
+pub returns-then-not-is_step : goal.returns-then-not-is_step
+returns-then-not-is_step c = search (loops, not-true, rules)
+
+pub overflow_add-k-in-loop-k : goal.overflow_add-k-in-loop-k
+overflow_add-k-in-loop-k c = search (gaps, rules)
+
+pub loop-k-preserved : goal.loop-k-preserved
+loop-k-preserved c = search (loops, not-false, rules)
+
+pub returns : goal.returns
+returns c = search (loops, rules)
