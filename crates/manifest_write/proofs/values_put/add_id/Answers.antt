@@ -1,0 +1,12 @@
+use borrow.Author.Rules.{rules}
+use Rattle.manifest_write.proofs.Wrotes.{values}
+use Rattle.manifest_write.proofs.values_put.add_id.Goals as goal
+
+pub put_id-requires : goal.put_id-requires
+put_id-requires c = search (values, rules)
+
+pub returns-then-has : goal.returns-then-has
+returns-then-has c = search (values, rules)
+
+pub returns : goal.returns
+returns c = search (values, rules)
