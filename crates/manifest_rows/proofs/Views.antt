@@ -5,7 +5,7 @@ use mathlib.Core.List.{List}
 use native.Mathlib.Omega.{arith}
 use Rattle.records.specs.Words.{view_words}
 use Rattle.records.specs.declared.ViewRow.{ViewRow}
-use Rattle.manifest_values.specs.Read.{is, wrong, view_at}
+use Rattle.manifest_values.specs.Read.{wrong, view_at}
 use Rattle.manifest_values.specs.Rows as rows
 use Rattle.manifest_values.specs.Rows.{got_view}
 use Rattle.manifest_values.specs.declared.GotView.{GotView}
