@@ -19,7 +19,7 @@ use Rattle.records.specs.Layout.{view_row, view_bytes, views_laid}
 use Rattle.records.specs.declared.Fill.{Fill}
 use Rattle.records.specs.declared.ViewRow.{ViewRow}
 use Rattle.records.proofs.Sums.{plus_empty}
-use Rattle.records.proofs.Laid.{Column, column, at, pool as bytes}
+use Rattle.records.proofs.Laid.{Column, column, pool as bytes}
 use Rattle.records.proofs.Columns.{view_rows}
 use Rattle.emit.proofs.Laid.{plain}
 use Rattle.emit.proofs.Columns.{views_bytes_long}

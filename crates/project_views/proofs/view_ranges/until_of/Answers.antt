@@ -1,0 +1,21 @@
+use borrow.Author.Rules.{rules}
+use Rattle.project_views.proofs.Ends.{plains}
+use Rattle.project_views.proofs.view_ranges.until_of.Goals as goal
+
+pub enum_told-1 : goal.enum_told-1
+enum_told-1 c = search (plains, rules)
+
+pub enum_known-b : goal.enum_known-b
+enum_known-b c = search (plains, rules)
+
+pub enum_known-b-in-Excluded-1 : goal.enum_known-b-in-Excluded-1
+enum_known-b-in-Excluded-1 c = search (plains, rules)
+
+pub returns-in-Unbounded : goal.returns-in-Unbounded
+returns-in-Unbounded c = search (plains, rules)
+
+pub returns-in-Included : goal.returns-in-Included
+returns-in-Included c = search (plains, rules)
+
+pub returns-in-Excluded : goal.returns-in-Excluded
+returns-in-Excluded c = search (plains, rules)
