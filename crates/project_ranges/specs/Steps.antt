@@ -41,8 +41,8 @@ resolved_row p r =
     record { start = start_or r.start (bound.Included p.at p.len); end = end_or r.end (Successor p.at p.len) }
 
 -- "missing: unbounded": the row of the tree at a place
-abbrev pub field_own : List ℕ → ℕ → Range
-field_own own place = pick (ltb place (length own / 6)) (own_row own place) (record { start = bound.Unbounded; end = bound.Unbounded })
+abbrev pub own_at : List ℕ → ℕ → Range
+own_at own place = pick (ltb place (length own / 6)) (own_row own place) (record { start = bound.Unbounded; end = bound.Unbounded })
 
 -- ---- "meeting it with the prefix's range must leave its bounds unchanged": the start, and an end that is not replaced yet
 
