@@ -4,7 +4,7 @@ use Rattle.keys.specs.Pick.{pick}
 use Rattle.keys.specs.Range.{Edges}
 use Rattle.keys.specs.Meet.{meet_of}
 use Rattle.project_views.specs.Shown.{holds_none}
-use Rattle.project_ranges.specs.Config.{Config, Asked, unset, asked, Own, table, own_range, passes}
+use Rattle.project_ranges.specs.Config.{Config, Asked, asked, Own, table, own_range, passes}
 use Rattle.project_ranges.specs.Own.{resolved}
 
 pub data Action : Type 0 where

@@ -7,7 +7,7 @@ use Rattle.records.specs.Row.{at, bound_at}
 use Rattle.tables.specs.Layout.{up_to}
 use Rattle.segments.specs.Refuses.{range_over, refuses5}
 use Rattle.project_views.specs.Reach.{reach_of}
-use Rattle.project_ranges.specs.Config.{Config, Asked, unset, asked, Own, table}
+use Rattle.project_ranges.specs.Config.{Config, Asked, asked, Own, table}
 use Rattle.project_ranges.specs.Action.{Action, drop, project, pass}
 use Rattle.project_ranges.specs.declared.Global.{Global}
 use Rattle.project_ranges.specs.declared.Global.TheVariants as global
