@@ -1,4 +1,3 @@
 pub mod Handed
-pub mod Held
 pub mod Own
 pub mod Rows

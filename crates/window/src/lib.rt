@@ -1,5 +1,5 @@
-// The selected segments as a view of the caller's own segment table. The borrow checker covers no function over a struct that holds a
-// slice, so those are proved by hand and are few and thin: the work is done by functions on the slice and the numbers.
+// The selected segments as a view of the caller's own segment table. The functions over the struct that holds the slice are few and thin:
+// the work is done by functions on the slice and the numbers.
 #![tactic(auto)]
 
 ghost use Rattle.std.specs.Prelude.{◌≡◌, min, length};
@@ -88,7 +88,7 @@ fn past_in(s: Selected) -> usize
     }
 }
 
-// ---- by hand: the struct is made, and taken apart
+// ---- the struct is made, and taken apart
 
 // The view of rows first..past of `table`.
 pub fn window_of<'a>(table: &'a [u64], first: usize, past: usize) -> SegmentWindow<'a>
@@ -118,7 +118,7 @@ pub fn selected_window<'a>(segments: &'a [u64], w: Window, s: Selected) -> Segme
     window_of(part_of_table(segments, w), first_in(s), past_in(s))
 }
 
-// Row `i` of what a selection names: plain parameters, and the view in a local, so that whoever calls it needs no proof by hand.
+// Row `i` of what a selection names: plain parameters, and the view in a local.
 pub fn selected_row(segments: &[u64], w: Window, s: Selected, i: usize) -> Read
     ensures { result ≡ read_of (shown (part_in segments.now w) (first_in s) (past_in s)) i }
 {
