@@ -1,0 +1,18 @@
+use mathlib.Core.Path.{◌∙◌}
+use Rattle.encoded.proofs.Inserts.{laid_found, laid_refused, laid_full, laid_put_lem}
+use Rattle.encoded.proofs.bytes_inserted.write_inserted.Goals as goal
+
+pub lacks_room-requires : goal.lacks_room-requires
+lacks_room-requires c = c.requires
+
+pub returns-then-lacks_room : goal.returns-then-lacks_room
+returns-then-lacks_room c = laid_full _ _ _ _ _ _ _ _ c.in-Entered.is _ c.lacks_room.ensures c.if-lacks_room.true
+
+pub returns-in-Found : goal.returns-in-Found
+returns-in-Found c = laid_found _ _ _ _ _ _ _ c.in-Found.is
+
+pub returns-in-Refused : goal.returns-in-Refused
+returns-in-Refused c = laid_refused _ _ _ _ _ _ _ c.in-Refused.is
+
+pub returns-else-lacks_room : goal.returns-else-lacks_room
+returns-else-lacks_room c = c.write_entered.ensures ∙ laid_put_lem _ _ _ _ _ _ _ _ c.in-Entered.is _ c.lacks_room.ensures c.if-lacks_room.false
