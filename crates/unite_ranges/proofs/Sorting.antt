@@ -99,8 +99,8 @@ module _ {A : Type 0} where
 
   from_ascends : {done : List (Ranged A)} → Ascends done → (xs : List (Ranged A)) → Ascends (arranged_from done xs)
   unfolding arranged_from
-  from_ascends a [] = a
-  from_ascends a (x ∷ xs) = from_ascends (entered_ascends x a) xs
+  from_ascends {done = done} a [] = a
+  from_ascends {done = done} a (x ∷ xs) = from_ascends {done = entered x done} (entered_ascends x a) xs
 
   -- "sorted .. by the start"
   pub arranged_ascends : (xs : List (Ranged A)) → Ascends (arranged xs)
@@ -149,9 +149,9 @@ module _ {A : Type 0} where
 
   from_stable : (e : Edge) {done : List (Ranged A)} → Ascends done → (xs : List (Ranged A)) → starting_at e (arranged_from done xs) ≡ starting_at e done ++ starting_at e xs
   unfolding arranged_from starting_at
-  from_stable e {done} a [] = sym (append-nil (starting_at e done))
-  from_stable e {done} a (x ∷ xs) =
-      from_stable e (entered_ascends x a) xs
+  from_stable e {done = done} a [] = sym (append-nil (starting_at e done))
+  from_stable e {done = done} a (x ∷ xs) =
+      from_stable e {done = entered x done} (entered_ascends x a) xs
       ∙ ap (λ k. k ++ starting_at e xs) (entered_stable e x a)
       ∙ append_assoc (starting_at e done) (starting_at e (x ∷ [])) (starting_at e xs)
       ∙ ap (λ k. starting_at e done ++ k) (starting_append e x xs)
