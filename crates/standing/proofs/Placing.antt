@@ -1,5 +1,5 @@
 -- A MANIFEST THAT STANDS IN TABLES IS JUDGED AS IT IS, from whichever cursor on: it lies within them. Assumes nothing.
-use Prim.Native.Nat.{ℕ, ◌+◌}
+use Prim.Native.Nat.{ℕ}
 use mathlib.Core.Path.{◌≡◌}
 use mathlib.Core.Bool.{true}
 use mathlib.Core.List.{List, ◌++◌}
