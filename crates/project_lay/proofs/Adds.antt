@@ -15,7 +15,7 @@ use Rattle.tables.specs.declared.Window.{Window}
 use Rattle.records.specs.Model.{Tree, Segment}
 use Rattle.records.specs.Row.{segment_at}
 use Rattle.records.specs.Decode.{bytes_in, tree_in, segment_in, segments_in, name_in}
-use Rattle.records.specs.Fill.{empty, plus, sum, fits, bytes, segments, key_fill, name_keys, tree_fill, segment_fill}
+use Rattle.records.specs.Fill.{empty, plus, sum, fits, bytes, key_fill, name_keys, tree_fill, segment_fill}
 use Rattle.records.specs.declared.Fill.{Fill}
 use Rattle.records.specs.declared.Limits.{Limits}
 use Rattle.records.specs.declared.Name.{Name}

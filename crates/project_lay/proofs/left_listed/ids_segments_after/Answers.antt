@@ -1,0 +1,38 @@
+use native.Mathlib.Numerals.{add-one}
+use lib.Arith.{sub_dec}
+use mir.Facts.{Fits-le}
+use Prim.Native.Nat.{◌/◌}
+use native.Mathlib.Omega.{arith}
+use lib.ListN.{length}
+use Rattle.tables.proofs.Windows.{held_in}
+use Rattle.project_views.proofs.Ids.{listed_none, listed_room, listed_more, listed_all}
+use Rattle.project_ranges.specs.Args.{config_in}
+use Rattle.project_lay.proofs.Listing.{left_used}
+use Rattle.project_lay.proofs.left_listed.ids_segments_after.Goals as goal
+
+pub loop-k-init : goal.loop-k-init
+loop-k-init c = let a = c.args in listed_none _ (left_used a.segments.now a.runs.now a.views.now a.pool.now a.w (config_in a.pool.now a.config a.own.now) _ c.held-n.ensures) c.requires
+
+pub overflow_add-first : goal.overflow_add-first
+overflow_add-first c = omega (arith, held_in c.args.w (length c.args.segments.now / 12) c.loop-k.k (omega arith))
+
+pub overflow_add-k : goal.overflow_add-k
+overflow_add-k c = omega arith
+
+pub ids_segment_at-to-requires : goal.ids_segment_at-to-requires
+ids_segment_at-to-requires c = record { i_in_bounds = held_in c.args.w (length c.args.segments.now / 12) c.loop-k.k (omega arith); i_in_bounds_2 = listed_room c.loop-k.invariant c.loop-k-test.true }
+
+pub overflow_add-k-in-loop-k : goal.overflow_add-k-in-loop-k
+overflow_add-k-in-loop-k c = rw (add-one c.loop-k.k) (Fits-le c.loop-k-test.true (record { fits = c.held-n.type_inv }))
+
+pub loop-k-smaller : goal.loop-k-smaller
+loop-k-smaller c = rw (add-one c.loop-k.k) (sub_dec c.held-n.result c.loop-k.k c.loop-k-test.true)
+
+pub loop-k-preserved : goal.loop-k-preserved
+loop-k-preserved c = listed_more c.loop-k.invariant c.loop-k-test.true (c.ids_segment_at-to.ensures.value, c.ids_segment_at-to.ensures.out_ids_after)
+
+pub shape_of-out_ids : goal.shape_of-out_ids
+shape_of-out_ids c = c.loop-k.invariant.grown.long
+
+pub returns : goal.returns
+returns c = let a = c.args in let whole = listed_all c.loop-k.invariant _ (left_used a.segments.now a.runs.now a.views.now a.pool.now a.w (config_in a.pool.now a.config a.own.now) _ c.held-n.ensures) c.loop-k-test.false in record { value = whole.0; out_ids_after = whole.1 }
