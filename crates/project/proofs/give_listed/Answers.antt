@@ -1,0 +1,19 @@
+use mathlib.Core.Path.{ap}
+use mathlib.Core.Bool.{not}
+use Rattle.records.specs.Decode.{Lent}
+use Rattle.project_ranges.specs.Config.{Config}
+use Rattle.project_ranges.specs.Args.{config_in}
+use Rattle.project.proofs.Answers.{listed_over, listed_fills, listed_no_room, listed_room, listed_done}
+use Rattle.project.proofs.give_listed.Goals as goal
+
+pub returns-in_default : goal.returns-in_default
+returns-in_default c = let a = c.args in let x : Lent = record { segments = a.segments.now; views = a.views.now; runs = a.runs.now; borrows = a.borrows.now; ids = a.ids.now; pool = a.pool.now } in let o : Lent = record { segments = a.out_segments.now; views = a.out_views.now; runs = a.out_runs.now; borrows = a.out_borrows.now; ids = a.out_ids.now; pool = a.out_pool.now } in let k : Config = config_in a.pool.now a.config a.own.now in listed_over a.lim a.names x a.m k o _ c.requires.used_value _ c.requires.d_value _ c.measure_pruned-u.ensures c.in_default.is
+
+pub returns-then-not-fits_in : goal.returns-then-not-fits_in
+returns-then-not-fits_in c = let a = c.args in let x : Lent = record { segments = a.segments.now; views = a.views.now; runs = a.runs.now; borrows = a.borrows.now; ids = a.ids.now; pool = a.pool.now } in let o : Lent = record { segments = a.out_segments.now; views = a.out_views.now; runs = a.out_runs.now; borrows = a.out_borrows.now; ids = a.out_ids.now; pool = a.out_pool.now } in let k : Config = config_in a.pool.now a.config a.own.now in listed_no_room a.lim a.names x a.m k o _ c.requires.used_value _ c.requires.d_value _ c.measure_pruned-u.ensures _ c.in-Fills.is _ c.fits_in.ensures (ap not c.if-not-fits_in.true)
+
+pub put_projected-row-requires : goal.put_projected-row-requires
+put_projected-row-requires c = let a = c.args in let x : Lent = record { segments = a.segments.now; views = a.views.now; runs = a.runs.now; borrows = a.borrows.now; ids = a.ids.now; pool = a.pool.now } in let o : Lent = record { segments = a.out_segments.now; views = a.out_views.now; runs = a.out_runs.now; borrows = a.out_borrows.now; ids = a.out_ids.now; pool = a.out_pool.now } in let k : Config = config_in a.pool.now a.config a.own.now in record { used_value = c.requires.used_value; f_value = listed_fills a.lim a.names x a.m k o _ c.requires.used_value _ c.requires.d_value _ c.measure_pruned-u.ensures _ c.in-Fills.is; out_pool_value = listed_room a.lim a.names x a.m k o _ c.requires.used_value _ c.requires.d_value _ c.measure_pruned-u.ensures _ c.in-Fills.is _ c.fits_in.ensures (ap not c.if-not-fits_in.false) }
+
+pub returns : goal.returns
+returns c = let a = c.args in let x : Lent = record { segments = a.segments.now; views = a.views.now; runs = a.runs.now; borrows = a.borrows.now; ids = a.ids.now; pool = a.pool.now } in let o : Lent = record { segments = a.out_segments.now; views = a.out_views.now; runs = a.out_runs.now; borrows = a.out_borrows.now; ids = a.out_ids.now; pool = a.out_pool.now } in let k : Config = config_in a.pool.now a.config a.own.now in listed_done a.lim a.names x a.m k o _ c.requires.used_value _ c.requires.d_value _ c.measure_pruned-u.ensures _ c.in-Fills.is _ c.fits_in.ensures (ap not c.if-not-fits_in.false) _ _ c.put_projected-row.ensures.value (λ i. record { segments = c.put_projected-row.ensures.out_segments_after i; views = c.put_projected-row.ensures.out_views_after i; runs = c.put_projected-row.ensures.out_runs_after i; borrows = c.put_projected-row.ensures.out_borrows_after i; ids = c.put_projected-row.ensures.out_ids_after i; pool = c.put_projected-row.ensures.out_pool_after i })
