@@ -1,5 +1,5 @@
 -- What is written of a manifest is well-formed by the public specification, and no deeper than 16. Assumes nothing.
-use Prim.Native.Nat.{ℕ, suc, ◌<◌}
+use Prim.Native.Nat.{ℕ, suc}
 use mathlib.Core.Path.{◌≡◌}
 use mathlib.Core.List.{List, [], ◌∷◌, map}
 use lib.Dec.{lit<}
