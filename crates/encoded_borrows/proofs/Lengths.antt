@@ -1,5 +1,5 @@
 -- Whatever the fresh UUIDs are, the clone has as many bytes. Assumes nothing.
-use Prim.Native.Nat.{ℕ, suc, ◌+◌}
+use Prim.Native.Nat.{ℕ, suc}
 use mathlib.Core.Path.{◌≡◌, refl, ap}
 use mathlib.Core.List.{List, [], ◌∷◌, ◌++◌, map}
 use native.Mathlib.Omega.{arith}
@@ -39,11 +39,15 @@ data Alike : List Borrow → List Borrow → Type 0 where
 
 alike_count : (bs cs : List Borrow) → Alike bs cs → length (map borrow_bytes bs) ≡ length (map borrow_bytes cs)
 alike_count [] [] none = refl
+alike_count [] (c ∷ cs) a = elim a [ ]
+alike_count (b ∷ bs) [] a = elim a [ ]
 alike_count (b ∷ bs) (c ∷ cs) (more h a) = ap suc (alike_count bs cs a)
 
 alike_concat : (bs cs : List Borrow) → Alike bs cs → length (concat (map borrow_bytes bs)) ≡ length (concat (map borrow_bytes cs))
 unfolding concat
 alike_concat [] [] none = refl
+alike_concat [] (c ∷ cs) a = elim a [ ]
+alike_concat (b ∷ bs) [] a = elim a [ ]
 alike_concat (b ∷ bs) (c ∷ cs) (more h a) =
     omega (arith, h, alike_concat bs cs a, length-append (borrow_bytes b) (concat (map borrow_bytes bs)), length-append (borrow_bytes c) (concat (map borrow_bytes cs)))
 

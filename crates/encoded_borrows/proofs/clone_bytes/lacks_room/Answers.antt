@@ -1,0 +1,11 @@
+use Rattle.encoded.proofs.Inserts.{lacks_all, lacks_some}
+use Rattle.encoded_borrows.proofs.clone_bytes.lacks_room.Goals as goal
+
+pub clone_fill-requires : goal.clone_fill-requires
+clone_fill-requires c = c.requires
+
+pub returns-in-Fills : goal.returns-in-Fills
+returns-in-Fills c = lacks_some _ _ _ _ _ c.clone_fill.ensures _ c.in-Fills.is _ c.fits_in.ensures
+
+pub returns-in-Broken : goal.returns-in-Broken
+returns-in-Broken c = lacks_all _ _ _ _ _ c.clone_fill.ensures c.in-Broken.is
