@@ -1,0 +1,17 @@
+use Rattle.encoded_merge.proofs.Merging.{ready_writer, ready_compactor, ready_both, ready_pool, ready_short}
+use Rattle.encoded_merge.proofs.both_read.ready.Goals as goal
+
+pub returns-then-writer-gt-LONGEST : goal.returns-then-writer-gt-LONGEST
+returns-then-writer-gt-LONGEST c = ready_writer _ _ _ _ _ c.if-writer-gt-LONGEST.true
+
+pub returns-then-compactor-gt-LONGEST : goal.returns-then-compactor-gt-LONGEST
+returns-then-compactor-gt-LONGEST c = ready_compactor _ _ _ _ _ c.if-writer-gt-LONGEST.false c.if-compactor-gt-LONGEST.true
+
+pub returns-then-most-pool : goal.returns-then-most-pool
+returns-then-most-pool c = ready_both _ _ _ _ _ _ _ _ _ _ c.if-writer-gt-LONGEST.false c.if-compactor-gt-LONGEST.false _ c.fits_in.ensures c.if-fits_in.true c.if-most-pool.true
+
+pub returns-else-most-pool : goal.returns-else-most-pool
+returns-else-most-pool c = ready_pool _ _ _ _ _ _ _ _ _ _ c.if-writer-gt-LONGEST.false c.if-compactor-gt-LONGEST.false _ c.fits_in.ensures c.if-fits_in.true c.if-most-pool.false
+
+pub returns-else-fits_in : goal.returns-else-fits_in
+returns-else-fits_in c = ready_short _ _ _ _ _ _ _ _ _ _ c.if-writer-gt-LONGEST.false c.if-compactor-gt-LONGEST.false _ c.fits_in.ensures c.if-fits_in.false
