@@ -15,7 +15,7 @@ use Rattle.tables.specs.Window.{held_of}
 use Rattle.tables.specs.declared.Window.{Window}
 use Rattle.tables.proofs.Holds.{up_to_front}
 use Rattle.tables.proofs.Joined.{up_to_length}
-use Rattle.records.specs.Row.{at, window_at, segment_at}
+use Rattle.records.specs.Row.{window_at, segment_at}
 use Rattle.records.specs.Decode.{bytes_in}
 use Rattle.records.specs.declared.SegmentRow.{SegmentRow}
 use Rattle.lawful.specs.Steps.{prefix_at}

@@ -19,7 +19,7 @@ use Rattle.tables.proofs.Holds.{up_to_front}
 use Rattle.tables.proofs.Joined.{up_to_length}
 use Rattle.tables.proofs.Writes.{write_length}
 use Rattle.shift.proofs.Written.{write_before, write_in, write_behind}
-use Rattle.records.specs.Row.{at, place_at}
+use Rattle.records.specs.Row.{place_at}
 use Rattle.records.specs.Decode.{bytes_in}
 use Rattle.records.specs.declared.Place.{Place}
 use Rattle.segments.specs.Prefixes.{leading}

@@ -12,7 +12,7 @@ use Rattle.tables.specs.declared.Window.{Window}
 use Rattle.tables.proofs.Holds.{up_to_front}
 use Rattle.records.specs.Model.{Tree, Segment}
 use Rattle.records.specs.New.{new_tree}
-use Rattle.records.specs.Row.{at, window_at, tree_at, segment_at}
+use Rattle.records.specs.Row.{window_at, tree_at, segment_at}
 use Rattle.records.specs.Decode.{Lent, tree_in, segment_in, segments_in}
 use Rattle.records.specs.declared.SegmentRow.{SegmentRow}
 use Rattle.measure.specs.Within.{tree_views}
