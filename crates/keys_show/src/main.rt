@@ -6,228 +6,246 @@
 #![tactic(auto)]
 
 use keys::{Bound, Order, Range, Successor};
-use libc::STDOUT_FILENO;
-
-fn put(s: &[u8]) {
-    io::write_all(STDOUT_FILENO, s);
-}
-
-fn wide(x: u8) -> u64 {
-    x as u64
-}
+use std::io;
 
 // The bytes in hexadecimal, two digits each.
-fn put_bytes(k: &[u8]) {
-    let mut i = 0;
-    while i < k.len() {
-        io::print_hex(STDOUT_FILENO, wide(k[i]), 2);
-        i += 1;
+fn put_bytes(rt: &impl Print, k: &[u8]) -> io::Result<()> {
+    for b in k {
+        print!(rt; "{b:02x}")?;
     }
+    Ok(())
 }
 
-fn put_key(k: &[u8]) {
-    if k.len() == 0 {
-        put(b"the empty key");
-        return;
+fn put_key(rt: &impl Print, k: &[u8]) -> io::Result<()> {
+    if k.is_empty() {
+        return print!(rt; "the empty key");
     }
-    put_bytes(k);
+    put_bytes(rt, k)
 }
 
-fn put_pair(a: &[u8], word: &[u8], b: &[u8]) {
-    put_key(a);
-    put(word);
-    put_key(b);
+fn put_pair(rt: &impl Print, a: &[u8], word: &str, b: &[u8]) -> io::Result<()> {
+    put_key(rt, a)?;
+    print!(rt; "{word}")?;
+    put_key(rt, b)
 }
 
-fn put_order(o: Order) {
+fn put_order(rt: &impl Print, o: Order) -> io::Result<()> {
     match o {
-        Order::Less => put(b": less\n"),
-        Order::Equal => put(b": equal\n"),
-        Order::Greater => put(b": greater\n"),
+        Order::Less => println!(rt; ": less"),
+        Order::Equal => println!(rt; ": equal"),
+        Order::Greater => println!(rt; ": greater"),
     }
 }
 
-fn put_answer(yes: bool) {
+fn put_answer(rt: &impl Print, yes: bool) -> io::Result<()> {
     if yes {
-        put(b": yes\n");
+        println!(rt; ": yes")
     } else {
-        put(b": no\n");
+        println!(rt; ": no")
     }
 }
 
-fn put_bound(pool: &[u8], b: Bound) {
+fn put_bound(rt: &impl Print, pool: &[u8], b: Bound) -> io::Result<()> {
     match b {
-        Bound::Unbounded => put(b"unbounded"),
+        Bound::Unbounded => print!(rt; "unbounded"),
         Bound::Included(at, len) => {
-            put(b"included ");
-            put_key(keys::part(pool, at, len));
+            print!(rt; "included ")?;
+            put_key(rt, keys::part(pool, at, len))
         }
         Bound::Excluded(at, len) => {
-            put(b"excluded ");
-            put_key(keys::part(pool, at, len));
+            print!(rt; "excluded ")?;
+            put_key(rt, keys::part(pool, at, len))
         }
     }
 }
 
-fn put_bounds(pool: &[u8], a: Bound, word: &[u8], b: Bound) {
-    put_bound(pool, a);
-    put(word);
-    put_bound(pool, b);
+fn put_bounds(rt: &impl Print, pool: &[u8], a: Bound, word: &str, b: Bound) -> io::Result<()> {
+    put_bound(rt, pool, a)?;
+    print!(rt; "{word}")?;
+    put_bound(rt, pool, b)
 }
 
 fn range(start: Bound, end: Bound) -> Range {
     Range { start, end }
 }
 
-fn put_range(pool: &[u8], r: Range) {
-    let s = r.start;
-    let e = r.end;
-    put_bounds(pool, s, b" to ", e);
+fn put_range(rt: &impl Print, pool: &[u8], r: Range) -> io::Result<()> {
+    put_bounds(rt, pool, r.start, " to ", r.end)
 }
 
-fn show_compare(a: &[u8], b: &[u8]) {
-    put(b"compare ");
-    put_pair(a, b" with ", b);
-    put_order(keys::compare(a, b));
+fn show_compare(rt: &impl Print, a: &[u8], b: &[u8]) -> io::Result<()> {
+    print!(rt; "compare ")?;
+    put_pair(rt, a, " with ", b)?;
+    put_order(rt, keys::compare(a, b))
 }
 
-fn show_common(a: &[u8], b: &[u8]) {
-    put(b"common start of ");
-    put_pair(a, b" and ", b);
-    put(b": ");
-    io::print_decimal(STDOUT_FILENO, keys::common(a, b) as u64);
-    put(b"\n");
+fn show_common(rt: &impl Print, a: &[u8], b: &[u8]) -> io::Result<()> {
+    print!(rt; "common start of ")?;
+    put_pair(rt, a, " and ", b)?;
+    println!(rt; ": {}", keys::common(a, b))
 }
 
-fn show_begins(p: &[u8], k: &[u8]) {
-    put_pair(p, b" begins ", k);
-    put_answer(keys::begins(p, k));
+fn show_begins(rt: &impl Print, p: &[u8], k: &[u8]) -> io::Result<()> {
+    put_pair(rt, p, " begins ", k)?;
+    put_answer(rt, keys::begins(p, k))
 }
 
-fn show_successor(p: &[u8]) {
-    put(b"successor of ");
-    put_key(p);
+fn show_successor(rt: &impl Print, p: &[u8]) -> io::Result<()> {
+    print!(rt; "successor of ")?;
+    put_key(rt, p)?;
     match keys::successor_of(p) {
-        Successor::Nowhere => put(b": none\n"),
+        Successor::Nowhere => println!(rt; ": none"),
         Successor::Grown(n) => {
-            put(b": ");
+            print!(rt; ": ")?;
             if 0 < n {
                 if n <= p.len() {
                     let last = p[n - 1];
-                    put_bytes(keys::part(p, 0, n - 1));
+                    put_bytes(rt, keys::part(p, 0, n - 1))?;
                     if last < 255 {
-                        io::print_hex(STDOUT_FILENO, wide(last + 1), 2);
+                        print!(rt; "{:02x}", last + 1)?;
                     }
                 }
             }
-            put(b"\n");
+            println!(rt)
         }
     }
 }
 
-fn show_below(k: &[u8], p: &[u8]) {
-    put_pair(k, b" below the successor of ", p);
-    put_answer(keys::below_successor(k, p));
+fn show_below(rt: &impl Print, k: &[u8], p: &[u8]) -> io::Result<()> {
+    put_pair(rt, k, " below the successor of ", p)?;
+    put_answer(rt, keys::below_successor(k, p))
 }
 
-fn show_starts(pool: &[u8], a: Bound, b: Bound) {
-    put(b"start ");
-    put_bounds(pool, a, b" beside ", b);
-    put_order(keys::start_order(pool, a, pool, b));
+fn show_starts(rt: &impl Print, pool: &[u8], a: Bound, b: Bound) -> io::Result<()> {
+    print!(rt; "start ")?;
+    put_bounds(rt, pool, a, " beside ", b)?;
+    put_order(rt, keys::start_order(pool, a, pool, b))
 }
 
-fn show_ends(pool: &[u8], a: Bound, b: Bound) {
-    put(b"end ");
-    put_bounds(pool, a, b" beside ", b);
-    put_order(keys::end_order(pool, a, pool, b));
+fn show_ends(rt: &impl Print, pool: &[u8], a: Bound, b: Bound) -> io::Result<()> {
+    print!(rt; "end ")?;
+    put_bounds(rt, pool, a, " beside ", b)?;
+    put_order(rt, keys::end_order(pool, a, pool, b))
 }
 
-fn show_empty(pool: &[u8], r: Range) {
-    put_range(pool, r);
-    put(b" is empty");
-    put_answer(keys::is_empty(pool, r));
+fn show_empty(rt: &impl Print, pool: &[u8], r: Range) -> io::Result<()> {
+    put_range(rt, pool, r)?;
+    print!(rt; " is empty")?;
+    put_answer(rt, keys::is_empty(pool, r))
 }
 
-fn show_meet(pool: &[u8], a: Range, b: Range) {
-    put_range(pool, a);
-    put(b" met with ");
-    put_range(pool, b);
-    put(b": ");
-    put_range(pool, keys::meet(pool, a, b));
-    put(b"\n");
+fn show_meet(rt: &impl Print, pool: &[u8], a: Range, b: Range) -> io::Result<()> {
+    put_range(rt, pool, a)?;
+    print!(rt; " met with ")?;
+    put_range(rt, pool, b)?;
+    print!(rt; ": ")?;
+    put_range(rt, pool, keys::meet(pool, a, b))?;
+    println!(rt)
 }
 
-fn comparisons() {
-    show_compare(b"", b"");
-    show_compare(b"", b"\x00");
-    show_compare(b"a", b"a\x00");
-    show_compare(b"b/", b"b");
-    show_compare(b"b/9", b"b0");
-    show_compare(b"\x7f", b"\x80");
-    show_compare(b"\xff", b"\xfe\xff");
-    show_common(b"b/1", b"b/9");
-    show_common(b"b/", b"b/9");
-    show_common(b"a", b"b");
+fn comparisons(rt: &impl Print) -> io::Result<()> {
+    show_compare(rt, b"", b"")?;
+    show_compare(rt, b"", b"\x00")?;
+    show_compare(rt, b"a", b"a\x00")?;
+    show_compare(rt, b"b/", b"b")?;
+    show_compare(rt, b"b/9", b"b0")?;
+    show_compare(rt, b"\x7f", b"\x80")?;
+    show_compare(rt, b"\xff", b"\xfe\xff")?;
+    show_common(rt, b"b/1", b"b/9")?;
+    show_common(rt, b"b/", b"b/9")?;
+    show_common(rt, b"a", b"b")
 }
 
-fn prefixes() {
-    show_begins(b"", b"a");
-    show_begins(b"b/", b"b/1");
-    show_begins(b"b/", b"b");
-    show_begins(b"b/", b"b0");
-    show_begins(b"b/", b"b/");
-    show_successor(b"");
-    show_successor(b"b/");
-    show_successor(b"a\xff\xff");
-    show_successor(b"\xff\xff");
-    show_successor(b"\xff\x00\xff");
-    show_below(b"b/\xff", b"b/");
-    show_below(b"b0", b"b/");
-    show_below(b"\xff\xff\xff", b"\xff");
+fn prefixes(rt: &impl Print) -> io::Result<()> {
+    show_begins(rt, b"", b"a")?;
+    show_begins(rt, b"b/", b"b/1")?;
+    show_begins(rt, b"b/", b"b")?;
+    show_begins(rt, b"b/", b"b0")?;
+    show_begins(rt, b"b/", b"b/")?;
+    show_successor(rt, b"")?;
+    show_successor(rt, b"b/")?;
+    show_successor(rt, b"a\xff\xff")?;
+    show_successor(rt, b"\xff\xff")?;
+    show_successor(rt, b"\xff\x00\xff")?;
+    show_below(rt, b"b/\xff", b"b/")?;
+    show_below(rt, b"b0", b"b/")?;
+    show_below(rt, b"\xff\xff\xff", b"\xff")
 }
 
-fn orders(pool: &[u8]) {
-    show_starts(pool, Bound::Unbounded, Bound::Included(0, 0));
-    show_starts(pool, Bound::Included(0, 1), Bound::Excluded(0, 1));
-    show_starts(pool, Bound::Excluded(0, 1), Bound::Included(0, 2));
-    show_ends(pool, Bound::Excluded(0, 1), Bound::Included(0, 1));
-    show_ends(pool, Bound::Included(8, 2), Bound::Unbounded);
-    show_ends(pool, Bound::Included(0, 1), Bound::Excluded(0, 2));
+fn orders(rt: &impl Print, pool: &[u8]) -> io::Result<()> {
+    show_starts(rt, pool, Bound::Unbounded, Bound::Included(0, 0))?;
+    show_starts(rt, pool, Bound::Included(0, 1), Bound::Excluded(0, 1))?;
+    show_starts(rt, pool, Bound::Excluded(0, 1), Bound::Included(0, 2))?;
+    show_ends(rt, pool, Bound::Excluded(0, 1), Bound::Included(0, 1))?;
+    show_ends(rt, pool, Bound::Included(8, 2), Bound::Unbounded)?;
+    show_ends(rt, pool, Bound::Included(0, 1), Bound::Excluded(0, 2))
 }
 
-fn empties(pool: &[u8]) {
-    show_empty(pool, range(Bound::Unbounded, Bound::Unbounded));
-    show_empty(pool, range(Bound::Unbounded, Bound::Excluded(0, 0)));
-    show_empty(pool, range(Bound::Unbounded, Bound::Included(0, 0)));
-    show_empty(pool, range(Bound::Excluded(0, 1), Bound::Excluded(0, 2)));
-    show_empty(pool, range(Bound::Excluded(0, 1), Bound::Included(0, 2)));
-    show_empty(pool, range(Bound::Included(0, 1), Bound::Excluded(0, 2)));
-    show_empty(pool, range(Bound::Included(2, 1), Bound::Included(2, 1)));
-    show_empty(pool, range(Bound::Excluded(2, 1), Bound::Included(2, 1)));
-    show_empty(pool, range(Bound::Excluded(2, 2), Bound::Excluded(8, 2)));
-    show_empty(pool, range(Bound::Included(8, 2), Bound::Included(2, 1)));
-    show_empty(pool, range(Bound::Included(12, 1), Bound::Excluded(11, 2)));
+fn empties(rt: &impl Print, pool: &[u8]) -> io::Result<()> {
+    show_empty(rt, pool, range(Bound::Unbounded, Bound::Unbounded))?;
+    show_empty(rt, pool, range(Bound::Unbounded, Bound::Excluded(0, 0)))?;
+    show_empty(rt, pool, range(Bound::Unbounded, Bound::Included(0, 0)))?;
+    show_empty(
+        rt,
+        pool,
+        range(Bound::Excluded(0, 1), Bound::Excluded(0, 2)),
+    )?;
+    show_empty(
+        rt,
+        pool,
+        range(Bound::Excluded(0, 1), Bound::Included(0, 2)),
+    )?;
+    show_empty(
+        rt,
+        pool,
+        range(Bound::Included(0, 1), Bound::Excluded(0, 2)),
+    )?;
+    show_empty(
+        rt,
+        pool,
+        range(Bound::Included(2, 1), Bound::Included(2, 1)),
+    )?;
+    show_empty(
+        rt,
+        pool,
+        range(Bound::Excluded(2, 1), Bound::Included(2, 1)),
+    )?;
+    show_empty(
+        rt,
+        pool,
+        range(Bound::Excluded(2, 2), Bound::Excluded(8, 2)),
+    )?;
+    show_empty(
+        rt,
+        pool,
+        range(Bound::Included(8, 2), Bound::Included(2, 1)),
+    )?;
+    show_empty(
+        rt,
+        pool,
+        range(Bound::Included(12, 1), Bound::Excluded(11, 2)),
+    )
 }
 
-fn meets(pool: &[u8]) {
+fn meets(rt: &impl Print, pool: &[u8]) -> io::Result<()> {
     let all = range(Bound::Unbounded, Bound::Unbounded);
     let from = range(Bound::Included(2, 3), Bound::Unbounded);
     let upto = range(Bound::Unbounded, Bound::Included(5, 3));
     let inner = range(Bound::Excluded(2, 3), Bound::Excluded(5, 3));
     let later = range(Bound::Included(10, 2), Bound::Excluded(8, 2));
-    show_meet(pool, all, all);
-    show_meet(pool, from, upto);
-    show_meet(pool, from, inner);
-    show_meet(pool, upto, inner);
-    show_meet(pool, inner, later);
+    show_meet(rt, pool, all, all)?;
+    show_meet(rt, pool, from, upto)?;
+    show_meet(rt, pool, from, inner)?;
+    show_meet(rt, pool, upto, inner)?;
+    show_meet(rt, pool, inner, later)
 }
 
-fn main() {
-    comparisons();
-    prefixes();
+fn main(rt: HostRuntime) -> io::Result<()> {
+    comparisons(&rt)?;
+    prefixes(&rt)?;
     // The bounds' keys: 61 and 6100 at 0, 62, 622f and 622f31 at 2, 622f39 at 5, 632f at 8, 6230 at 10; none from 12 on.
     let pool = b"a\x00b/1b/9c/b0";
-    orders(pool);
-    empties(pool);
-    meets(pool);
+    orders(&rt, pool)?;
+    empties(&rt, pool)?;
+    meets(&rt, pool)
 }
