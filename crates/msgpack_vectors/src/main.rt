@@ -4,47 +4,39 @@
 
 ghost use Rattle.std.specs.Prelude.{◌<◌};
 
-use libc::{STDIN_FILENO, STDOUT_FILENO};
 use msgpack::{Head, Whole};
+use std::io;
+use std::io::Read;
 
-fn text(s: &[u8]) {
-    io::write_all(STDOUT_FILENO, s);
+fn named(rt: &impl Print, name: &str, n: u64) -> io::Result<()> {
+    print!(rt; "{name}{n}")
 }
 
-fn named(name: &[u8], n: u64) {
-    text(name);
-    io::print_decimal(STDOUT_FILENO, n);
+fn flag(rt: &impl Print, b: bool) -> io::Result<()> {
+    print!(rt; "good {b}")
 }
 
-fn flag(b: bool) {
-    if b {
-        text(b"good true");
-    } else {
-        text(b"good false");
-    }
-}
-
-fn value(s: &[u8]) {
+fn value(rt: &impl Print, s: &[u8]) -> io::Result<()> {
     match msgpack::head_at(s, 0) {
-        Head::Cut => text(b"cut"),
-        Head::Never => text(b"never"),
-        Head::Nil(_) => text(b"good nil"),
-        Head::Flag(b, _) => flag(b),
-        Head::Uint(x, _) => named(b"good uint ", x),
-        Head::Minus(m, _) => named(b"good minus ", m),
-        Head::Bin(_, n, _) => named(b"good bin ", n as u64),
-        Head::Other(_) => text(b"good other"),
-        Head::Array(n, _) => named(b"good array ", n),
-        Head::Map(n, _) => named(b"good map ", n),
+        Head::Cut => print!(rt; "cut"),
+        Head::Never => print!(rt; "never"),
+        Head::Nil(_) => print!(rt; "good nil"),
+        Head::Flag(b, _) => flag(rt, b),
+        Head::Uint(x, _) => named(rt, "good uint ", x),
+        Head::Minus(m, _) => named(rt, "good minus ", m),
+        Head::Bin(_, n, _) => named(rt, "good bin ", n as u64),
+        Head::Other(_) => print!(rt; "good other"),
+        Head::Array(n, _) => named(rt, "good array ", n),
+        Head::Map(n, _) => named(rt, "good map ", n),
     }
 }
 
-fn vector(s: &[u8]) {
+fn vector(rt: &impl Print, s: &[u8]) -> io::Result<()> {
     match msgpack::well_formed(s) {
-        Whole::Good => value(s),
-        Whole::Bad(p) => named(b"bad ", p as u64),
+        Whole::Good => value(rt, s)?,
+        Whole::Bad(p) => named(rt, "bad ", p as u64)?,
     }
-    text(b"\n");
+    println!(rt)
 }
 
 fn wide(b: u8) -> usize
@@ -53,22 +45,24 @@ fn wide(b: u8) -> usize
     b as usize
 }
 
-fn vectors(s: &[u8]) {
+fn vectors(rt: &impl Print, s: &[u8]) -> io::Result<()> {
     let mut at = 0;
     while 2 <= s.len() - at {
         let from = at + 2;
         let n = wide(s[at]) * 256 + wide(s[at + 1]);
         if s.len() - from < n {
-            return;
+            return Ok(());
         }
         let end = from + n;
-        vector(&s[from..end]);
+        vector(rt, &s[from..end])?;
         at = end;
     }
+    Ok(())
 }
 
-fn main() {
-    let mut buffer = io::large_buffer();
-    let n = io::read_full(STDIN_FILENO, &mut buffer);
-    vectors(&buffer[..n]);
+// What is past 65,536 bytes is not read.
+fn main(rt: HostRuntime) -> io::Result<()> {
+    let mut input = Vec::new(rt.alloc());
+    rt.reader().take(65536).read_to_end(&mut input)?;
+    vectors(&rt, input.as_slice())
 }
