@@ -41,7 +41,7 @@ fn digit(n: u64, b: u8) -> u64 {
     if 1844674407370955161 < n {
         return n;
     }
-    std::num::wrapping_add_u64(n * 10, (b - b'0') as u64)
+    (n * 10).wrapping_add((b - b'0') as u64)
 }
 
 // The number between the k-th space of `s` and the next, 0 where there is none. Bytes that are no digits do not count.

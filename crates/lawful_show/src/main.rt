@@ -12,9 +12,10 @@ ghost use Rattle.std.specs.Prelude.{◌≤◌};
 
 use ids::{SstMark, ViewMark};
 use lawful::Judged;
-use libc::{STDIN_FILENO, STDOUT_FILENO};
 use lines::{after, before, find, number};
 use records::{ManifestRow, Name, Place, TreeRow, limits_01};
+use std::io;
+use std::io::Read;
 use tables::{Window, ix};
 
 // ---- the tables, which stand one after the other in `t`
@@ -83,7 +84,7 @@ fn set(t: &mut [u64], s: &[u8], width: usize, from: usize, past: usize) {
 // A line of rows: from which on, how many, and behind the colon their words.
 fn set_rows(t: &mut [u64], letter: u8, s: &[u8]) {
     let first = number(s, 1);
-    let past = std::num::wrapping_add_u64(first, number(s, 2));
+    let past = first.wrapping_add(number(s, 2));
     set(
         t,
         after(s, b':'),
@@ -162,43 +163,40 @@ fn judge(t: &[u64], m: ManifestRow) -> u64 {
     ))
 }
 
-fn put(s: &[u8]) {
-    io::write_all(STDOUT_FILENO, s);
-}
-
 // A manifest's line, from its name on.
-fn show(t: &[u64], s: &[u8]) {
-    put(before(s, b':'));
-    put(b": ");
-    io::print_decimal(STDOUT_FILENO, judge(t, manifest(after(s, b':'))));
-    put(b"\n");
+fn show(rt: &impl Print, t: &[u64], s: &[u8]) -> io::Result<()> {
+    rt.write_all(before(s, b':'))?;
+    println!(rt; ": {}", judge(t, manifest(after(s, b':'))))
 }
 
 // ---- the lines
 
-fn line(t: &mut [u64], s: &[u8]) {
+fn line(rt: &impl Print, t: &mut [u64], s: &[u8]) -> io::Result<()> {
     if s.len() == 0 {
-        return;
+        return Ok(());
     }
     if s[0] == b'c' {
-        show(t, after(s, b' '));
+        show(rt, t, after(s, b' '))?;
     } else {
         set_rows(t, s[0], s);
     }
+    Ok(())
 }
 
-fn play(t: &mut [u64], s: &[u8]) {
+fn play(rt: &impl Print, t: &mut [u64], s: &[u8]) -> io::Result<()> {
     let mut i = 0;
     while i < s.len() {
         let end = i + find(&s[i..], b'\n');
-        line(t, &s[i..end]);
+        line(rt, t, &s[i..end])?;
         i = end + 1;
     }
+    Ok(())
 }
 
-fn main() {
+// What is past 65,536 bytes is not read.
+fn main(rt: HostRuntime) -> io::Result<()> {
     let mut t = [0u64; 13961];
-    let mut buffer = io::large_buffer();
-    let n = io::read_full(STDIN_FILENO, &mut buffer);
-    play(&mut t, &buffer[..n]);
+    let mut input = Vec::new(rt.alloc());
+    rt.reader().take(65536).read_to_end(&mut input)?;
+    play(&rt, &mut t, input.as_slice())
 }
