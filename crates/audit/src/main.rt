@@ -2,38 +2,32 @@
 #![tactic(auto)]
 
 use copy::Copied;
-use libc::{STDIN_FILENO, STDOUT_FILENO};
 use measure::Measured;
 use records::{Fill, Refusal};
-
-fn put(s: &[u8]) {
-    io::write_all(STDOUT_FILENO, s);
-}
+use std::io;
+use std::io::Read;
 
 // A word, a number, and the end of the line.
-fn put_line(word: &[u8], n: usize) {
-    put(word);
-    io::print_decimal(STDOUT_FILENO, n as u64);
-    put(b"\n");
+fn put_line(rt: &impl Print, word: &str, n: usize) -> io::Result<()> {
+    println!(rt; "{word} {n}")
 }
 
-fn put_refusal(r: Refusal) {
+fn put_refusal(rt: &impl Print, r: Refusal) -> io::Result<()> {
     let t = records::tell(r);
-    put(b"refused ");
-    io::print_decimal(STDOUT_FILENO, t.number as u64);
-    put_line(b" at ", t.place);
+    print!(rt; "refused {} ", t.number)?;
+    put_line(rt, "at", t.place)
 }
 
-fn put_fill(f: Fill) {
-    put(b"manifest ok\n");
-    put_line(b"segments ", f.segments);
-    put_line(b"views ", f.views);
-    put_line(b"runs ", f.runs);
-    put_line(b"borrows ", f.borrows);
+fn put_fill(rt: &impl Print, f: Fill) -> io::Result<()> {
+    println!(rt; "manifest ok")?;
+    put_line(rt, "segments", f.segments)?;
+    put_line(rt, "views", f.views)?;
+    put_line(rt, "runs", f.runs)?;
+    put_line(rt, "borrows", f.borrows)
 }
 
 // What reading says of the input, in tables as large as L1 allows: 64, 512, 128, 32 and 512 rows, and 8,192 bytes.
-fn audit(s: &[u8]) {
+fn audit(rt: &impl Print, s: &[u8]) -> io::Result<()> {
     let mut rows_of_segments = [0u64; 768];
     let mut rows_of_views = [0u64; 8192];
     let mut rows_of_runs = [0u64; 384];
@@ -61,18 +55,19 @@ fn audit(s: &[u8]) {
         &mut ids,
         &mut pool,
     ) {
-        Copied::Refused(r) => put_refusal(r),
+        Copied::Refused(r) => put_refusal(rt, r),
         Copied::Done(m) => match measure::measure(
             lim, &segments, &views, &runs, &borrows, &ids, &pool, m,
         ) {
-            Measured::Fills(f) => put_fill(f),
-            Measured::Broken => put_refusal(Refusal::Unlawful(1)),
+            Measured::Fills(f) => put_fill(rt, f),
+            Measured::Broken => put_refusal(rt, Refusal::Unlawful(1)),
         },
     }
 }
 
-fn main() {
-    let mut input = [0u8; 65537];
-    let n = io::read_full(STDIN_FILENO, &mut input);
-    audit(&input[..n]);
+// A manifest of more than 65,536 bytes is refused, so no more than 65,537 are read.
+fn main(rt: HostRuntime) -> io::Result<()> {
+    let mut input = Vec::new(rt.alloc());
+    rt.reader().take(65537).read_to_end(&mut input)?;
+    audit(&rt, input.as_slice())
 }
