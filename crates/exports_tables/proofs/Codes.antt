@@ -1,8 +1,8 @@
 -- A manifest's own value with a code that stands for nothing breaks L1: what asks for a lawful manifest refuses it, 1 at 1. Assumes that the
 -- table of segments is no longer than a slice can be.
 use Prim.Native.Nat.{ℕ, ◌<◌, ◌/◌, ◌^◌}
-use mathlib.Core.Path.{◌≡◌, refl}
-use mathlib.Core.Bool.{Bool, false, true, ◌&&◌}
+use mathlib.Core.Path.{◌≡◌}
+use mathlib.Core.Bool.{false}
 use mathlib.Core.List.{List}
 use lib.IntN.{ℤ}
 use native.Mathlib.Omega.{arith}

@@ -1,0 +1,12 @@
+use mathlib.Core.Path.{sym, ap, ◌∙◌}
+use mir.Facts.{to_z-of_z}
+use Rattle.exports_forms.specs.Replies.{told}
+use Rattle.segments.specs.Select.{selected}
+use Rattle.exports_tables.proofs.Selects.{select_odd, select_even}
+use Rattle.exports_tables.proofs.tables_select.Goals as goal
+
+pub returns-then-is_odd : goal.returns-then-is_odd
+returns-then-is_odd c = c.refused_answer.ensures ∙ ap (λ x. told (selected x)) (select_odd _ _ _ _ (sym c.is_odd.ensures ∙ c.if-is_odd.true))
+
+pub returns : goal.returns
+returns c = c.selected_answer.ensures ∙ ap (λ x. told (selected x)) ((rw (c.limits_01-lim.ensures, c.head_at-m.ensures, c.range_arg-r.ensures, to_z-of_z c.ranges.tick) at c.select_segments-x.ensures) ∙ select_even _ _ _ _ (sym c.is_odd.ensures ∙ c.if-is_odd.false))
