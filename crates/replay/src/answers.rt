@@ -2,46 +2,35 @@
 use crate::parts::at_most;
 use exports_forms::Answer;
 use keys::part;
-use libc::STDOUT_FILENO;
+use std::io;
 
-pub fn put(s: &[u8]) {
-    io::write_all(STDOUT_FILENO, s);
-}
-
-fn put_number(word: &[u8], n: usize) {
-    put(word);
-    io::print_decimal(STDOUT_FILENO, n as u64);
-}
-
-fn digits_of(b: u8) -> u64 {
-    b as u64
+fn put_number(rt: &impl Print, word: &str, n: usize) -> io::Result<()> {
+    print!(rt; "{word}{n}")
 }
 
 // In hexadecimal, two digits each.
-fn put_bytes(s: &[u8]) {
-    let mut i = 0;
-    while i < s.len() {
-        io::print_hex(STDOUT_FILENO, digits_of(s[i]), 2);
-        i += 1;
+fn put_bytes(rt: &impl Print, s: &[u8]) -> io::Result<()> {
+    for b in s {
+        print!(rt; "{b:02x}")?;
     }
+    Ok(())
 }
 
 // A word of ids, which are two words each and joined with commas.
-fn put_word(i: usize, x: u64) {
+fn put_word(rt: &impl Print, i: usize, x: u64) -> io::Result<()> {
     if 0 < i {
         if i % 2 == 0 {
-            put(b",");
+            print!(rt; ",")?;
         }
     }
-    io::print_hex(STDOUT_FILENO, x, 16);
+    print!(rt; "{x:016x}")
 }
 
-fn put_words(s: &[u64]) {
-    let mut i = 0;
-    while i < s.len() {
-        put_word(i, s[i]);
-        i += 1;
+fn put_words(rt: &impl Print, s: &[u64]) -> io::Result<()> {
+    for (i, x) in s.iter().enumerate() {
+        put_word(rt, i, *x)?;
     }
+    Ok(())
 }
 
 // So many ids of two words each.
@@ -52,62 +41,64 @@ fn pairs(s: &[u64], n: usize) -> &[u64] {
     at_most(s, 2 * n)
 }
 
-fn put_looked(a: Answer) {
+fn put_looked(rt: &impl Print, a: Answer) -> io::Result<()> {
     let kind = a.first;
     match kind {
-        0 => put(b"unsegmented"),
-        1 => put_number(b"segment ", a.second),
-        _ => put(b"absent"),
+        0 => print!(rt; "unsegmented"),
+        1 => put_number(rt, "segment ", a.second),
+        _ => print!(rt; "absent"),
     }
 }
 
-fn put_inserted(a: Answer, out: &[u8]) {
+fn put_inserted(rt: &impl Print, a: Answer, out: &[u8]) -> io::Result<()> {
     if a.first == 0 {
-        put_number(b"found ", a.second);
-        return;
+        return put_number(rt, "found ", a.second);
     }
-    put_number(b"entered ", a.second);
-    put(b" ");
-    put_bytes(part(out, 0, a.third));
+    put_number(rt, "entered ", a.second)?;
+    print!(rt; " ")?;
+    put_bytes(rt, part(out, 0, a.third))
 }
 
-fn put_selected(a: Answer) {
+fn put_selected(rt: &impl Print, a: Answer) -> io::Result<()> {
     if a.first == 0 {
-        put(b"unsegmented");
-        return;
+        return print!(rt; "unsegmented");
     }
-    put_number(b"window ", a.second);
-    put_number(b" ", a.third);
+    put_number(rt, "window ", a.second)?;
+    put_number(rt, " ", a.third)
 }
 
-fn put_projected(a: Answer, out: &[u8]) {
-    put_number(b"", a.first);
-    put(b" ");
-    put_bytes(part(out, 0, a.second));
+fn put_projected(rt: &impl Print, a: Answer, out: &[u8]) -> io::Result<()> {
+    put_number(rt, "", a.first)?;
+    print!(rt; " ")?;
+    put_bytes(rt, part(out, 0, a.second))
 }
 
-fn put_owned(a: Answer, ids: &[u64]) {
+fn put_owned(rt: &impl Print, a: Answer, ids: &[u64]) -> io::Result<()> {
     if a.first == 0 {
-        put(b".");
-        return;
+        return print!(rt; ".");
     }
-    put_words(pairs(ids, a.first));
+    put_words(rt, pairs(ids, a.first))
 }
 
 // What an operation answered, with the bytes and the ids that it wrote.
-pub fn put_answer(operation: u8, a: Answer, out: &[u8], ids: &[u64]) {
+pub fn put_answer(
+    rt: &impl Print,
+    operation: u8,
+    a: Answer,
+    out: &[u8],
+    ids: &[u64],
+) -> io::Result<()> {
     if a.number != 0 {
-        put_number(b"refused ", a.number);
-        put_number(b" at ", a.first);
-        return;
+        put_number(rt, "refused ", a.number)?;
+        return put_number(rt, " at ", a.first);
     }
-    put(b"ok ");
+    print!(rt; "ok ")?;
     match operation {
-        1 => put_looked(a),
-        2 => put_inserted(a, out),
-        5 => put_selected(a),
-        6 => put_projected(a, out),
-        7 => put_owned(a, ids),
-        _ => put_bytes(part(out, 0, a.first)),
+        1 => put_looked(rt, a),
+        2 => put_inserted(rt, a, out),
+        5 => put_selected(rt, a),
+        6 => put_projected(rt, a, out),
+        7 => put_owned(rt, a, ids),
+        _ => put_bytes(rt, part(out, 0, a.first)),
     }
 }

@@ -9,13 +9,14 @@
 mod answers;
 mod parts;
 
-use answers::{put, put_answer};
+use answers::put_answer;
 use exports_forms::Answer;
-use libc::STDIN_FILENO;
 use parts::{
     asked_of, fifth, first, fourth, front, id_of, number_at, numbers, second, six_numbers, third,
     words,
 };
+use std::io;
+use std::io::Read;
 
 // The room that a result is given: what L1 allows.
 fn room() -> [u64; 6] {
@@ -207,35 +208,38 @@ fn answer(operation: u8, s: &[u8], out: &mut [u8], ids: &mut [u64]) -> Answer {
     }
 }
 
-fn play(operation: u8, s: &[u8]) {
+fn play(rt: &impl Print, operation: u8, s: &[u8]) -> io::Result<()> {
     let mut out = [0u8; 65536];
     let mut ids = [0u64; 1024];
     let a = answer(operation, s, &mut out, &mut ids);
-    put_answer(operation, a, &out, &ids);
-    put(b"\n");
+    put_answer(rt, operation, a, &out, &ids)?;
+    println!(rt)
 }
 
-fn call(s: &[u8]) {
+fn call(rt: &impl Print, s: &[u8]) -> io::Result<()> {
     if 0 < s.len() {
-        play(s[0], &s[1..]);
+        play(rt, s[0], &s[1..])?;
     }
+    Ok(())
 }
 
-fn calls(s: &[u8]) {
+fn calls(rt: &impl Print, s: &[u8]) -> io::Result<()> {
     let mut at = 0;
     while at < s.len() {
         let n = 2 + number_at(s, at);
         if s.len() - at < n {
-            return;
+            return Ok(());
         }
         let end = at + n;
-        call(first(&s[at..end]));
+        call(rt, first(&s[at..end]))?;
         at = end;
     }
+    Ok(())
 }
 
-fn main() {
-    let mut buffer = io::large_buffer();
-    let n = io::read_full(STDIN_FILENO, &mut buffer);
-    calls(&buffer[..n]);
+// What is past 65,536 bytes is not read.
+fn main(rt: HostRuntime) -> io::Result<()> {
+    let mut input = Vec::new(rt.alloc());
+    rt.reader().take(65536).read_to_end(&mut input)?;
+    calls(&rt, input.as_slice())
 }
