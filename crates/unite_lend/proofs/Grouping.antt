@@ -32,9 +32,10 @@ use Rattle.borrows.proofs.Lawfully.{keeps, within_parts, owned_most}
 use Rattle.borrows.proofs.Lending.{held_is}
 use Rattle.borrows.proofs.OwnedAnswers.{count_small}
 use Rattle.emit.proofs.Columns.{ids_laid_long}
+use Rattle.unite_groups.specs.Sets.{id_set}
 use Rattle.unite_groups.specs.Groups.{Member}
-use Rattle.unite_groups.specs.Chosen.{Supply}
-use Rattle.unite_groups.specs.Rows.{entered_from, borrow_members, owned_member}
+use Rattle.unite_groups.specs.Chosen.{Supply, supplied_with}
+use Rattle.unite_groups.specs.Rows.{entered_from, borrow_members, owned_member, member_entered}
 use Rattle.unite_sources.specs.Rows.{manifest_at_word, source_at_word}
 use Rattle.unite_lend.specs.Used.{own_members, source_members}
 
@@ -152,7 +153,7 @@ front_read t n = rw (sub-zero (n * 2))
 pub entered_append : (ss : List Supply) (gs xs ys : List Member) → entered_from ss gs (xs ++ ys) ≡ entered_from ss (entered_from ss gs xs) ys
 unfolding entered_from
 entered_append ss gs [] ys = refl
-entered_append ss gs (x ∷ xs) ys = entered_append ss _ xs ys
+entered_append ss gs (x ∷ xs) ys = entered_append ss (member_entered (supplied_with ss x.path) x.path (id_set x.ids) x.checkpoint gs) xs ys
 
 pub source_entered : (l : Lent) (t : List ℕ) (b : ℕ) (w : Window) (ss : List Supply) (gs hs ms : List Member) → w ≡ window_at t (b + 16)
     → hs ≡ entered_from ss gs (borrow_members (borrows_in l.borrows l.ids l.pool w)) → ms ≡ entered_from ss hs (own_members (source_at_word l t b)) → ms ≡ entered_from ss gs (source_members (source_at_word l t b))
