@@ -10,16 +10,16 @@ use lib.Seq.{take-suc, take_all, length-take-le}
 use borrow.Author.Tests.{lt-ltb, le-ltb}
 use Rattle.keys.specs.declared.Successor.TheVariants.{Nowhere, Grown}
 use Rattle.keys.specs.Pick.{pick}
-use Rattle.keys.specs.Prefix.{keep_before, without_fF, last_up, after, left_of, successor_of, grown_top}
+use Rattle.keys.specs.Prefix.{keep_before, without_ff, last_up, after, left_of, successor_of, grown_top}
 
 -- ---- what the answer says of p is what `after` says: the bytes that are left are p's first
 pub successor_after : (p : List ℕ) → grown_top p (successor_of p) ≡ after p
 unfolding successor_of after
-successor_after p = go (without_fF p) (first p)
+successor_after p = go (without_ff p) (first p)
   where
-    first : (p : List ℕ) → take (length (without_fF p)) p ≡ without_fF p
+    first : (p : List ℕ) → take (length (without_ff p)) p ≡ without_ff p
     first [] = refl
-    first (x ∷ p) = step (without_fF p) (first p)
+    first (x ∷ p) = step (without_ff p) (first p)
       where
         last : (b : Bool) → take (length (pick b (x ∷ []) [])) (x ∷ p) ≡ pick b (x ∷ []) []
         last true = refl
@@ -38,11 +38,11 @@ keep_grows : (y : ℕ) (q : List ℕ) (x : ℕ) → keep_before y (q ++ x ∷ []
 keep_grows y [] x = refl
 keep_grows y (z ∷ q) x = refl
 
-last_stays : (q : List ℕ) (x : ℕ) → x < 255 → without_fF (q ++ x ∷ []) ≡ q ++ x ∷ []
+last_stays : (q : List ℕ) (x : ℕ) → x < 255 → without_ff (q ++ x ∷ []) ≡ q ++ x ∷ []
 last_stays [] x h = rw (lt-ltb x 255 h)
 last_stays (y ∷ q) x h = rw (last_stays q x h) (keep_grows y q x)
 
-last_drops : (q : List ℕ) (x : ℕ) → 255 ≤ x → without_fF (q ++ x ∷ []) ≡ without_fF q
+last_drops : (q : List ℕ) (x : ℕ) → 255 ≤ x → without_ff (q ++ x ∷ []) ≡ without_ff q
 last_drops [] x h = rw (le-ltb x 255 h)
 last_drops (y ∷ q) x h = rw (last_drops q x h)
 
@@ -53,7 +53,7 @@ left_snoc (y ∷ q) x = ap (λ n. Grown (suc n)) (rw (length-append q (x ∷ [])
 -- the bytes from n on are FF: the first n decide
 pub record Dropped (p : List ℕ) (n : ℕ) : Type 0 where
   pub within : n ≤ length p
-  pub rest : without_fF (take n p) ≡ without_fF p
+  pub rest : without_ff (take n p) ≡ without_ff p
 
 pub dropped_none : (p : List ℕ) → Dropped p (length p)
 dropped_none p = record { within = omega arith; rest = rw (take_all (length p) p (omega arith)) }
@@ -68,7 +68,7 @@ module _ (p : List ℕ) (n : ℕ) (w : Dropped p n) where
   dropped_grows h l =
       let q : List ℕ = take (n - 1) p in
       let e : suc (length q) ≡ n = rw (length-take-le (n - 1) p (omega (arith, w.within))) (omega arith) in
-      let s : without_fF p ≡ q ++ get_or p (n - 1) 0 ∷ [] = sym w.rest ∙ rw (take_last p n h w.within) (last_stays q (get_or p (n - 1) 0) l) in
+      let s : without_ff p ≡ q ++ get_or p (n - 1) 0 ∷ [] = sym w.rest ∙ rw (take_last p n h w.within) (last_stays q (get_or p (n - 1) 0) l) in
       rw s (rw (left_snoc q (get_or p (n - 1) 0), e) refl)
 
   pub dropped_next : 0 < n → 255 ≤ get_or p (n - 1) 0 → Dropped p (n - 1)
@@ -80,6 +80,6 @@ module _ (p : List ℕ) (n : ℕ) (w : Dropped p n) where
 
   pub dropped_all : n ≤ 0 → Nowhere ≡ successor_of p
   unfolding successor_of
-  dropped_all h = let e : n ≡ 0 = omega arith in let s : without_fF p ≡ [] = sym (rw e at w.rest) in rw s
+  dropped_all h = let e : n ≡ 0 = omega arith in let s : without_ff p ≡ [] = sym (rw e at w.rest) in rw s
 
 pub ruleset grow = (dropped_none, dropped_grows, dropped_next, dropped_all)

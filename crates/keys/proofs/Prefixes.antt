@@ -12,7 +12,7 @@ use borrow.Author.Tests.{lt-ltb, ltb-false}
 use Rattle.keys.specs.Pick.{pick}
 use Rattle.keys.specs.Says.{Says, holds, fails}
 use Rattle.keys.specs.Key.{Below, UpTo}
-use Rattle.keys.specs.Prefix.{Bytes, Begins, begins_of, Top, nowhere, at, Under, free, under, under_of, keep_before, without_fF, last_up, after}
+use Rattle.keys.specs.Prefix.{Bytes, Begins, begins_of, Top, nowhere, at, Under, free, under, under_of, keep_before, without_ff, last_up, after}
 use Rattle.keys.proofs.Says.{says_iff, says_and, says_eq}
 use Rattle.keys.proofs.ByteOrder.{up_to_below, not_both, below_cons, says_less}
 
@@ -31,7 +31,7 @@ after_step x nowhere = pick (ltb x 255) (at ((x + 1) ∷ [])) nowhere
 
 after_cons : (x : ℕ) (p : List ℕ) → after (x ∷ p) ≡ after_step x (after p)
 unfolding after
-after_cons x p = go (without_fF p)
+after_cons x p = go (without_ff p)
   where
     last : (b : Bool) → last_up (pick b (x ∷ []) []) ≡ pick b (at ((x + 1) ∷ [])) nowhere
     last true = refl

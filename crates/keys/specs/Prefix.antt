@@ -40,9 +40,9 @@ abbrev pub keep_before : ℕ → List ℕ → List ℕ
 keep_before x [] = pick (ltb x 255) (x ∷ []) []
 keep_before x (y ∷ q) = x ∷ y ∷ q
 
-abbrev pub without_fF : List ℕ → List ℕ
-without_fF [] = []
-without_fF (x ∷ p) = keep_before x (without_fF p)
+abbrev pub without_ff : List ℕ → List ℕ
+without_ff [] = []
+without_ff (x ∷ p) = keep_before x (without_ff p)
 
 -- "and add one to the last byte"
 abbrev pub add_one : ℕ → List ℕ → List ℕ
@@ -55,7 +55,7 @@ last_up [] = nowhere
 last_up (x ∷ q) = at (add_one x q)
 
 unfoldable pub after : List ℕ → Top
-after p = last_up (without_fF p)
+after p = last_up (without_ff p)
 
 -- The same as the code answers it: how many bytes are left.
 abbrev pub left_of : List ℕ → Successor
@@ -63,7 +63,7 @@ left_of [] = Nowhere
 left_of (x ∷ q) = Grown (length (x ∷ q))
 
 unfoldable pub successor_of : List ℕ → Successor
-successor_of p = left_of (without_fF p)
+successor_of p = left_of (without_ff p)
 
 -- what that says of p: its first n bytes, the last of them one more
 abbrev pub grown_top : List ℕ → Successor → Top

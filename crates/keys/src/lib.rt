@@ -93,6 +93,7 @@ pub fn is_less(a: &[u8], b: &[u8]) -> bool
 }
 
 // Trailing FF bytes are dropped, and the last byte that is left grows by one.
+#[tactic(auto, using(crate::proofs::Grows::grow))]
 pub fn successor_of(p: &[u8]) -> Successor
     ensures { result ≡ successor_of p.now }
 {

@@ -10,7 +10,7 @@ use lib.ListN.{length, get_or, take, drop as skip}
 use borrow.Author.Tests.{le-leb, lt-ltb}
 use Rattle.keys.specs.Pick.{pick}
 use Rattle.keys.specs.Key.{is_less}
-use Rattle.keys.specs.Prefix.{keep_before, without_fF, add_one, last_up, after}
+use Rattle.keys.specs.Prefix.{keep_before, without_ff, add_one, last_up, after}
 use Rattle.keys.specs.Range.{Edge, unbounded, included, excluded, Edges}
 use Rattle.keys.specs.Meet.{start_order, end_order, meet_of}
 use Rattle.keys.specs.Pool.{part_of, edge_of, edges_of, inside_of}
@@ -147,9 +147,9 @@ module _ (most : ℕ) where
 
   -- ---- the range of a prefix
 
-  without_long : (p : List ℕ) → length (without_fF p) ≤ length p
+  without_long : (p : List ℕ) → length (without_ff p) ≤ length p
   without_long [] = omega arith
-  without_long (x ∷ p) = go (without_fF p) (without_long p)
+  without_long (x ∷ p) = go (without_ff p) (without_long p)
     where
       go : (q : List ℕ) → length q ≤ length p → length (keep_before x q) ≤ suc (length p)
       go [] h = one (ltb x 255)
@@ -165,7 +165,7 @@ module _ (most : ℕ) where
 
   top_short : (p : List ℕ) → length p ≤ most → short_e (top_edge (after p)) ≡ true
   unfolding after
-  top_short p h = go (without_fF p) (without_long p)
+  top_short p h = go (without_ff p) (without_long p)
     where
       go : (q : List ℕ) → length q ≤ length p → short_e (top_edge (last_up q)) ≡ true
       go [] k = refl

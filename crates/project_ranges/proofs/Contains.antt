@@ -11,7 +11,7 @@ use borrow.Author.Tests.{le-leb}
 use Rattle.keys.specs.Pick.{pick}
 use Rattle.keys.specs.Says.{Says, holds, fails}
 use Rattle.keys.specs.Key.{order_of, is_less, is_equal}
-use Rattle.keys.specs.Prefix.{Top, nowhere, at, under_of, keep_before, without_fF, add_one, last_up, after, left_of, successor_of, grown_top}
+use Rattle.keys.specs.Prefix.{Top, nowhere, at, under_of, keep_before, without_ff, add_one, last_up, after, left_of, successor_of, grown_top}
 use Rattle.keys.specs.Range.{Edge, unbounded, included, excluded}
 use Rattle.keys.specs.Meet as order
 use Rattle.keys.specs.Meet.{start_order, earlier}
@@ -166,9 +166,9 @@ abbrev size : prefix.Successor → ℕ
 size Nowhere = 0
 size (Grown n) = n
 
-without_short : (p : List ℕ) → length (without_fF p) ≤ length p
+without_short : (p : List ℕ) → length (without_ff p) ≤ length p
 without_short [] = omega arith
-without_short (x ∷ p) = go (without_fF p) (without_short p)
+without_short (x ∷ p) = go (without_ff p) (without_short p)
   where
     last : (b : Bool) → length (pick b (x ∷ []) []) ≤ suc (length p)
     last true = omega arith
@@ -192,7 +192,7 @@ module _ (k p : List ℕ) (s : prefix.Successor) (e : s ≡ successor_of p) wher
 module _ (p : List ℕ) (s : prefix.Successor) (n : ℕ) (e : s ≡ successor_of p) (h : s ≡ Grown n) where
   left_within : (0 < n) × (n ≤ length p)
   unfolding successor_of
-  left_within = go (without_fF p) (without_short p) (sym e ∙ h)
+  left_within = go (without_ff p) (without_short p) (sym e ∙ h)
     where
       go : (q : List ℕ) → length q ≤ length p → left_of q ≡ Grown n → (0 < n) × (n ≤ length p)
       go [] l f = let z : ◌≡◌ {A = ℕ} 0 1 = cc in absurd (omega arith)

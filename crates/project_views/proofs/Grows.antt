@@ -9,7 +9,7 @@ use lib.ListN.{length, get_or, set, take, drop, length-append, take-append-drop}
 use lib.Seq.{set_at, get_or_at, length-take-le}
 use borrow.Author.Tests.{ltb-true}
 use Rattle.keys.specs.Pick.{pick}
-use Rattle.keys.specs.Prefix.{keep_before, without_fF, add_one, last_up, after, left_of, successor_of}
+use Rattle.keys.specs.Prefix.{keep_before, without_ff, add_one, last_up, after, left_of, successor_of}
 use Rattle.keys.specs.Range.{Edge, excluded}
 use Rattle.keys.specs.Pool.{part_of, edge_of}
 use Rattle.tables.specs.Layout.{write}
@@ -98,9 +98,9 @@ data Strip : List ℕ → List ℕ → Type 0 where
   one : {x : ℕ} {p : List ℕ} → x < 255 → Strip (x ∷ p) (x ∷ [])
   more : {x y : ℕ} {p w : List ℕ} → Strip p (y ∷ w) → Strip (x ∷ p) (x ∷ y ∷ w)
 
-strip : (p : List ℕ) → Strip p (without_fF p)
+strip : (p : List ℕ) → Strip p (without_ff p)
 strip [] = none
-strip (x ∷ p) = go (without_fF p) (strip p)
+strip (x ∷ p) = go (without_ff p) (strip p)
   where
     only : (b : Bool) → ltb x 255 ≡ b → Strip (x ∷ p) (pick b (x ∷ []) [])
     only true e = one (ltb-true x 255 e)
@@ -144,7 +144,7 @@ unfolding after successor_of
 flat_is pool Unbounded = plain
 flat_is pool (Included from len) = plain
 flat_is pool (Excluded from len) = plain
-flat_is pool (Successor from len) = go (without_fF (part_of pool from len)) (strip (part_of pool from len))
+flat_is pool (Successor from len) = go (without_ff (part_of pool from len)) (strip (part_of pool from len))
   where
     go : (w : List ℕ) → Strip (part_of pool from len) w → FlatIs (top_edge (last_up w)) (edge_of pool (flat_by from (left_of w)).end) (flat_by from (left_of w)).grown
     go [] s = plain
