@@ -14,6 +14,7 @@ ghost use Rattle.msgpack_put.specs.Write.{uint_bytes, minus_bytes, int_bytes, fl
 #[derive(Clone, Copy)]
 struct Tagged(u8, usize, u64);
 
+#[tactic(auto, using(std::proofs::lemmas::Bool::Decides::nat_tests), unfolding(crate::specs::Write::uint_bytes, keys::specs::BigEndian::be_bytes))]
 fn uint_form(x: u64) -> Tagged
     ensures { (uint_bytes x ≡ tagged_bytes result) × (result.1 ≤ 8) }
 {
