@@ -7,8 +7,9 @@
 
 use exports_forms::Answer;
 use keys::part;
-use libc::{STDIN_FILENO, STDOUT_FILENO};
 use msgpack::{Bin, Skipped, Uint};
+use std::io;
+use std::io::Read;
 
 // The byte string behind `k` values; none where there is no such.
 fn item(s: &[u8], k: usize) -> &[u8] {
@@ -53,15 +54,13 @@ fn list(s: &[u64; 512], k: usize) -> &[u64] {
 }
 
 // Number and place of a refusal; or 0 and how many bytes were written, and these.
-fn put_answer(a: Answer, out: &[u8]) {
-    io::print_decimal(STDOUT_FILENO, a.number as u64);
-    io::write_all(STDOUT_FILENO, b" ");
-    io::print_decimal(STDOUT_FILENO, a.first as u64);
-    io::write_all(STDOUT_FILENO, b"\n");
+fn put_answer(rt: &impl Print, a: Answer, out: &[u8]) -> io::Result<()> {
+    println!(rt; "{} {}", a.number, a.first)?;
     if a.number == 0 {
-        io::write_all(STDOUT_FILENO, part(out, 0, a.first));
-        io::write_all(STDOUT_FILENO, b"\n");
+        rt.write_all(part(out, 0, a.first))?;
+        println!(rt)?;
     }
+    Ok(())
 }
 
 // The call, with what L1 allows as room, in tables for one source, for all of eight with 512 bytes of paths, for 512 words of fresh
@@ -102,7 +101,7 @@ fn unite(
     )
 }
 
-fn play(s: &[u8]) {
+fn play(rt: &impl Print, s: &[u8]) -> io::Result<()> {
     let mut numbers = [0u64; 512];
     let mut out = [0u8; 65536];
     read_numbers(item(s, 2), &mut numbers);
@@ -115,23 +114,25 @@ fn play(s: &[u8]) {
         list(&numbers, 3),
         &mut out,
     );
-    put_answer(a, &out);
+    put_answer(rt, a, &out)
 }
 
-fn calls(s: &[u8]) {
+fn calls(rt: &impl Print, s: &[u8]) -> io::Result<()> {
     let mut i = 0;
     while i < s.len() {
         let c = item(s, i);
         if c.len() == 0 {
-            return;
+            return Ok(());
         }
-        play(c);
+        play(rt, c)?;
         i += 1;
     }
+    Ok(())
 }
 
-fn main() {
-    let mut buffer = io::large_buffer();
-    let n = io::read_full(STDIN_FILENO, &mut buffer);
-    calls(&buffer[..n]);
+// What is past 65,536 bytes is not read.
+fn main(rt: HostRuntime) -> io::Result<()> {
+    let mut input = Vec::new(rt.alloc());
+    rt.reader().take(65536).read_to_end(&mut input)?;
+    calls(&rt, input.as_slice())
 }
