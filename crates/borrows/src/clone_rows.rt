@@ -56,7 +56,7 @@ pub fn bare_fill(
     m: ManifestRow,
 ) -> Fill
     requires { judged_of lim (record { segments = segments.now; views = views.now; runs = runs.now; borrows = borrows.now; ids = ids.now; pool = pool.now }) m ≡ Lawful }
-    ensures { result ≡ manifest_fill (bare_of (manifest_in (record { segments = segments.entry.now; views = views.now; runs = runs.now; borrows = borrows.now; ids = ids.now; pool = pool.now }) m)) }
+    ensures { result ≡ manifest_fill (bare_of (manifest_in (record { segments = segments.now; views = views.now; runs = runs.now; borrows = borrows.now; ids = ids.now; pool = pool.now }) m)) }
 {
     let b = bare(m);
     match measure(lim, segments, views, runs, borrows, ids, pool, b) {
@@ -79,7 +79,7 @@ pub fn clone_fill(
     path: &[u8],
 ) -> Measured
     requires { judged_of lim (record { segments = segments.now; views = views.now; runs = runs.now; borrows = borrows.now; ids = ids.now; pool = pool.now }) m ≡ Lawful }
-    ensures { result ≡ add_of lim.fill (manifest_fill (manifest_in (record { segments = segments.entry.now; views = views.now; runs = runs.now; borrows = borrows.now; ids = ids.now; pool = pool.now }) m)) (lent_fill path.now (owned_of (manifest_in (record { segments = segments.entry.now; views = views.now; runs = runs.now; borrows = borrows.now; ids = ids.now; pool = pool.now }) m))) }
+    ensures { result ≡ add_of lim.fill (manifest_fill (manifest_in (record { segments = segments.now; views = views.now; runs = runs.now; borrows = borrows.now; ids = ids.now; pool = pool.now }) m)) (lent_fill path.now (owned_of (manifest_in (record { segments = segments.now; views = views.now; runs = runs.now; borrows = borrows.now; ids = ids.now; pool = pool.now }) m))) }
 {
     match measure(lim, segments, views, runs, borrows, ids, pool, m) {
         Measured::Broken => Measured::Broken,
@@ -115,13 +115,13 @@ fn put_front(
     out_pool: &mut [u8],
 ) -> ManifestRow
     requires { fits (manifest_fill (manifest_in (record { segments = segments.now; views = views.now; runs = runs.now; borrows = borrows.now; ids = ids.now; pool = pool.now }) m)) (room_of (record { segments = out_segments.old; views = out_views.old; runs = out_runs.old; borrows = out_borrows.old; ids = out_ids.old; pool = out_pool.old })) ≡ true }
-    ensures value { result ≡ manifest_row (manifest_in (record { segments = segments.entry.now; views = views.now; runs = runs.now; borrows = borrows.now; ids = ids.now; pool = pool.now }) m) }
-    ensures out_segments_after { out_segments.new ≡ over out_segments.old (layout (manifest_in (record { segments = segments.entry.now; views = views.now; runs = runs.now; borrows = borrows.now; ids = ids.now; pool = pool.now }) m)).segments }
-    ensures out_views_after { out_views.new ≡ over out_views.old (layout (manifest_in (record { segments = segments.entry.now; views = views.now; runs = runs.now; borrows = borrows.now; ids = ids.now; pool = pool.now }) m)).views }
-    ensures out_runs_after { out_runs.new ≡ over out_runs.old (layout (manifest_in (record { segments = segments.entry.now; views = views.now; runs = runs.now; borrows = borrows.now; ids = ids.now; pool = pool.now }) m)).runs }
-    ensures out_borrows_after { out_borrows.new ≡ over out_borrows.old (layout (manifest_in (record { segments = segments.entry.now; views = views.now; runs = runs.now; borrows = borrows.now; ids = ids.now; pool = pool.now }) m)).borrows }
-    ensures out_ids_after { out_ids.new ≡ over out_ids.old (layout (manifest_in (record { segments = segments.entry.now; views = views.now; runs = runs.now; borrows = borrows.now; ids = ids.now; pool = pool.now }) m)).ids }
-    ensures out_pool_after { out_pool.new ≡ over out_pool.old (layout (manifest_in (record { segments = segments.entry.now; views = views.now; runs = runs.now; borrows = borrows.now; ids = ids.now; pool = pool.now }) m)).pool }
+    ensures value { result ≡ manifest_row (manifest_in (record { segments = segments.now; views = views.now; runs = runs.now; borrows = borrows.now; ids = ids.now; pool = pool.now }) m) }
+    ensures out_segments_after { out_segments.new ≡ over out_segments.old (layout (manifest_in (record { segments = segments.now; views = views.now; runs = runs.now; borrows = borrows.now; ids = ids.now; pool = pool.now }) m)).segments }
+    ensures out_views_after { out_views.new ≡ over out_views.old (layout (manifest_in (record { segments = segments.now; views = views.now; runs = runs.now; borrows = borrows.now; ids = ids.now; pool = pool.now }) m)).views }
+    ensures out_runs_after { out_runs.new ≡ over out_runs.old (layout (manifest_in (record { segments = segments.now; views = views.now; runs = runs.now; borrows = borrows.now; ids = ids.now; pool = pool.now }) m)).runs }
+    ensures out_borrows_after { out_borrows.new ≡ over out_borrows.old (layout (manifest_in (record { segments = segments.now; views = views.now; runs = runs.now; borrows = borrows.now; ids = ids.now; pool = pool.now }) m)).borrows }
+    ensures out_ids_after { out_ids.new ≡ over out_ids.old (layout (manifest_in (record { segments = segments.now; views = views.now; runs = runs.now; borrows = borrows.now; ids = ids.now; pool = pool.now }) m)).ids }
+    ensures out_pool_after { out_pool.new ≡ over out_pool.old (layout (manifest_in (record { segments = segments.now; views = views.now; runs = runs.now; borrows = borrows.now; ids = ids.now; pool = pool.now }) m)).pool }
 {
     let none = Fill {
         segments: 0,
@@ -166,13 +166,13 @@ fn put_bare(
     out_pool: &mut [u8],
 ) -> ManifestRow
     requires { fits (manifest_fill (bare_of (manifest_in (record { segments = segments.now; views = views.now; runs = runs.now; borrows = borrows.now; ids = ids.now; pool = pool.now }) m))) (room_of (record { segments = out_segments.old; views = out_views.old; runs = out_runs.old; borrows = out_borrows.old; ids = out_ids.old; pool = out_pool.old })) ≡ true }
-    ensures value { result ≡ manifest_row (bare_of (manifest_in (record { segments = segments.entry.now; views = views.now; runs = runs.now; borrows = borrows.now; ids = ids.now; pool = pool.now }) m)) }
-    ensures out_segments_after { out_segments.new ≡ over out_segments.old (layout (bare_of (manifest_in (record { segments = segments.entry.now; views = views.now; runs = runs.now; borrows = borrows.now; ids = ids.now; pool = pool.now }) m))).segments }
-    ensures out_views_after { out_views.new ≡ over out_views.old (layout (bare_of (manifest_in (record { segments = segments.entry.now; views = views.now; runs = runs.now; borrows = borrows.now; ids = ids.now; pool = pool.now }) m))).views }
-    ensures out_runs_after { out_runs.new ≡ over out_runs.old (layout (bare_of (manifest_in (record { segments = segments.entry.now; views = views.now; runs = runs.now; borrows = borrows.now; ids = ids.now; pool = pool.now }) m))).runs }
-    ensures out_borrows_after { out_borrows.new ≡ over out_borrows.old (layout (bare_of (manifest_in (record { segments = segments.entry.now; views = views.now; runs = runs.now; borrows = borrows.now; ids = ids.now; pool = pool.now }) m))).borrows }
-    ensures out_ids_after { out_ids.new ≡ over out_ids.old (layout (bare_of (manifest_in (record { segments = segments.entry.now; views = views.now; runs = runs.now; borrows = borrows.now; ids = ids.now; pool = pool.now }) m))).ids }
-    ensures out_pool_after { out_pool.new ≡ over out_pool.old (layout (bare_of (manifest_in (record { segments = segments.entry.now; views = views.now; runs = runs.now; borrows = borrows.now; ids = ids.now; pool = pool.now }) m))).pool }
+    ensures value { result ≡ manifest_row (bare_of (manifest_in (record { segments = segments.now; views = views.now; runs = runs.now; borrows = borrows.now; ids = ids.now; pool = pool.now }) m)) }
+    ensures out_segments_after { out_segments.new ≡ over out_segments.old (layout (bare_of (manifest_in (record { segments = segments.now; views = views.now; runs = runs.now; borrows = borrows.now; ids = ids.now; pool = pool.now }) m))).segments }
+    ensures out_views_after { out_views.new ≡ over out_views.old (layout (bare_of (manifest_in (record { segments = segments.now; views = views.now; runs = runs.now; borrows = borrows.now; ids = ids.now; pool = pool.now }) m))).views }
+    ensures out_runs_after { out_runs.new ≡ over out_runs.old (layout (bare_of (manifest_in (record { segments = segments.now; views = views.now; runs = runs.now; borrows = borrows.now; ids = ids.now; pool = pool.now }) m))).runs }
+    ensures out_borrows_after { out_borrows.new ≡ over out_borrows.old (layout (bare_of (manifest_in (record { segments = segments.now; views = views.now; runs = runs.now; borrows = borrows.now; ids = ids.now; pool = pool.now }) m))).borrows }
+    ensures out_ids_after { out_ids.new ≡ over out_ids.old (layout (bare_of (manifest_in (record { segments = segments.now; views = views.now; runs = runs.now; borrows = borrows.now; ids = ids.now; pool = pool.now }) m))).ids }
+    ensures out_pool_after { out_pool.new ≡ over out_pool.old (layout (bare_of (manifest_in (record { segments = segments.now; views = views.now; runs = runs.now; borrows = borrows.now; ids = ids.now; pool = pool.now }) m))).pool }
 {
     let b = bare(m);
     put_front(
@@ -215,13 +215,13 @@ pub fn put_clone(
     requires c_value { c ≡ manifest_fill (bare_of (manifest_in (record { segments = segments.now; views = views.now; runs = runs.now; borrows = borrows.now; ids = ids.now; pool = pool.now }) m)) }
     requires borrows_in_bounds { held_of m.external_dbs (length borrows.now / 9) < length fresh.now / 2 }
     requires out_pool_value { fits (manifest_fill (cloned_of (manifest_in (record { segments = segments.now; views = views.now; runs = runs.now; borrows = borrows.now; ids = ids.now; pool = pool.now }) m) path.now checkpoint (uuids_of fresh.now))) (room_of (record { segments = out_segments.old; views = out_views.old; runs = out_runs.old; borrows = out_borrows.old; ids = out_ids.old; pool = out_pool.old })) ≡ true }
-    ensures value { result ≡ manifest_row (cloned_of (manifest_in (record { segments = segments.entry.now; views = views.now; runs = runs.now; borrows = borrows.now; ids = ids.now; pool = pool.now }) m) path.now checkpoint (uuids_of fresh.now)) }
-    ensures out_segments_after { out_segments.new ≡ over out_segments.old (layout (cloned_of (manifest_in (record { segments = segments.entry.now; views = views.now; runs = runs.now; borrows = borrows.now; ids = ids.now; pool = pool.now }) m) path.now checkpoint (uuids_of fresh.now))).segments }
-    ensures out_views_after { out_views.new ≡ over out_views.old (layout (cloned_of (manifest_in (record { segments = segments.entry.now; views = views.now; runs = runs.now; borrows = borrows.now; ids = ids.now; pool = pool.now }) m) path.now checkpoint (uuids_of fresh.now))).views }
-    ensures out_runs_after { out_runs.new ≡ over out_runs.old (layout (cloned_of (manifest_in (record { segments = segments.entry.now; views = views.now; runs = runs.now; borrows = borrows.now; ids = ids.now; pool = pool.now }) m) path.now checkpoint (uuids_of fresh.now))).runs }
-    ensures out_borrows_after { out_borrows.new ≡ over out_borrows.old (layout (cloned_of (manifest_in (record { segments = segments.entry.now; views = views.now; runs = runs.now; borrows = borrows.now; ids = ids.now; pool = pool.now }) m) path.now checkpoint (uuids_of fresh.now))).borrows }
-    ensures out_ids_after { out_ids.new ≡ over out_ids.old (layout (cloned_of (manifest_in (record { segments = segments.entry.now; views = views.now; runs = runs.now; borrows = borrows.now; ids = ids.now; pool = pool.now }) m) path.now checkpoint (uuids_of fresh.now))).ids }
-    ensures out_pool_after { out_pool.new ≡ over out_pool.old (layout (cloned_of (manifest_in (record { segments = segments.entry.now; views = views.now; runs = runs.now; borrows = borrows.now; ids = ids.now; pool = pool.now }) m) path.now checkpoint (uuids_of fresh.now))).pool }
+    ensures value { result ≡ manifest_row (cloned_of (manifest_in (record { segments = segments.now; views = views.now; runs = runs.now; borrows = borrows.now; ids = ids.now; pool = pool.now }) m) path.now checkpoint (uuids_of fresh.now)) }
+    ensures out_segments_after { out_segments.new ≡ over out_segments.old (layout (cloned_of (manifest_in (record { segments = segments.now; views = views.now; runs = runs.now; borrows = borrows.now; ids = ids.now; pool = pool.now }) m) path.now checkpoint (uuids_of fresh.now))).segments }
+    ensures out_views_after { out_views.new ≡ over out_views.old (layout (cloned_of (manifest_in (record { segments = segments.now; views = views.now; runs = runs.now; borrows = borrows.now; ids = ids.now; pool = pool.now }) m) path.now checkpoint (uuids_of fresh.now))).views }
+    ensures out_runs_after { out_runs.new ≡ over out_runs.old (layout (cloned_of (manifest_in (record { segments = segments.now; views = views.now; runs = runs.now; borrows = borrows.now; ids = ids.now; pool = pool.now }) m) path.now checkpoint (uuids_of fresh.now))).runs }
+    ensures out_borrows_after { out_borrows.new ≡ over out_borrows.old (layout (cloned_of (manifest_in (record { segments = segments.now; views = views.now; runs = runs.now; borrows = borrows.now; ids = ids.now; pool = pool.now }) m) path.now checkpoint (uuids_of fresh.now))).borrows }
+    ensures out_ids_after { out_ids.new ≡ over out_ids.old (layout (cloned_of (manifest_in (record { segments = segments.now; views = views.now; runs = runs.now; borrows = borrows.now; ids = ids.now; pool = pool.now }) m) path.now checkpoint (uuids_of fresh.now))).ids }
+    ensures out_pool_after { out_pool.new ≡ over out_pool.old (layout (cloned_of (manifest_in (record { segments = segments.now; views = views.now; runs = runs.now; borrows = borrows.now; ids = ids.now; pool = pool.now }) m) path.now checkpoint (uuids_of fresh.now))).pool }
 {
     let w = m.external_dbs;
     let n = held(w, borrows.len() / 9);

@@ -235,8 +235,8 @@ pub fn own_all(
     at: usize,
 ) -> usize
     requires { at + length (owned_of (manifest_in (record { segments = segments.now; views = views.now; runs = runs.now; borrows = borrows.now; ids = ids.now; pool = [] }) m)) < 2 ^ 64 }
-    ensures value { result ≡ at + length (owned_of (manifest_in (record { segments = segments.entry.now; views = views.now; runs = runs.now; borrows = borrows.now; ids = ids.now; pool = [] }) m)) }
-    ensures out_after { out.new ≡ put_from out.old at (owned_of (manifest_in (record { segments = segments.entry.now; views = views.now; runs = runs.now; borrows = borrows.now; ids = ids.now; pool = [] }) m)) }
+    ensures value { result ≡ at + length (owned_of (manifest_in (record { segments = segments.now; views = views.now; runs = runs.now; borrows = borrows.now; ids = ids.now; pool = [] }) m)) }
+    ensures out_after { out.new ≡ put_from out.old at (owned_of (manifest_in (record { segments = segments.now; views = views.now; runs = runs.now; borrows = borrows.now; ids = ids.now; pool = [] }) m)) }
 {
     let t = m.tree;
     let w = m.segments;
@@ -268,7 +268,7 @@ pub fn count_owned(
     m: ManifestRow,
 ) -> usize
     requires { length (owned_of (manifest_in (record { segments = segments.now; views = views.now; runs = runs.now; borrows = borrows.now; ids = ids.now; pool = [] }) m)) < 2 ^ 64 }
-    ensures { result ≡ length (owned_of (manifest_in (record { segments = segments.entry.now; views = views.now; runs = runs.now; borrows = borrows.now; ids = ids.now; pool = [] }) m)) }
+    ensures { result ≡ length (owned_of (manifest_in (record { segments = segments.now; views = views.now; runs = runs.now; borrows = borrows.now; ids = ids.now; pool = [] }) m)) }
 {
     let mut none = [0u64; 1];
     own_all(segments, views, runs, borrows, ids, m, &mut none, 0)
@@ -288,7 +288,7 @@ pub fn owned_judged(
     out_ids: &mut [u64],
 ) -> Owned
     requires { judged_of lim (record { segments = segments.now; views = views.now; runs = runs.now; borrows = borrows.now; ids = ids.now; pool = pool.now }) m ≡ Lawful }
-    ensures { record { answer = result; out = out_ids.new } ≡ owned_given lim (manifest_in (record { segments = segments.entry.now; views = views.now; runs = runs.now; borrows = borrows.now; ids = ids.now; pool = pool.now }) m) out_ids.old }
+    ensures { record { answer = result; out = out_ids.new } ≡ owned_given lim (manifest_in (record { segments = segments.now; views = views.now; runs = runs.now; borrows = borrows.now; ids = ids.now; pool = pool.now }) m) out_ids.old }
 {
     let n = count_owned(segments, views, runs, borrows, ids, m);
     let room = id_fill(out_ids.len() / 2);
@@ -312,7 +312,7 @@ pub fn owned_ssts(
     m: ManifestRow,
     out_ids: &mut [u64],
 ) -> Owned
-    ensures { record { answer = result; out = out_ids.new } ≡ owned_in lim (record { segments = segments.entry.now; views = views.now; runs = runs.now; borrows = borrows.now; ids = ids.now; pool = pool.now }) m out_ids.old }
+    ensures { record { answer = result; out = out_ids.new } ≡ owned_in lim (record { segments = segments.now; views = views.now; runs = runs.now; borrows = borrows.now; ids = ids.now; pool = pool.now }) m out_ids.old }
 {
     match lawful(lim, segments, views, runs, borrows, ids, pool, m) {
         Judged::Lawful => {

@@ -158,13 +158,13 @@ pub fn put_manifest(
     c: Fill,
 ) -> ManifestRow
     requires { fits (plus c (manifest_fill (manifest_in (record { segments = segments.now; views = views.now; runs = runs.now; borrows = borrows.now; ids = ids.now; pool = pool.now }) m))) (room_of (record { segments = out_segments.old; views = out_views.old; runs = out_runs.old; borrows = out_borrows.old; ids = out_ids.old; pool = out_pool.old })) ≡ true }
-    ensures value { result ≡ manifest_row_at c (manifest_in (record { segments = segments.entry.now; views = views.now; runs = runs.now; borrows = borrows.now; ids = ids.now; pool = pool.now }) m) }
-    ensures out_segments_after { out_segments.new ≡ write out_segments.old (c.segments * 12) (layout_at c (manifest_in (record { segments = segments.entry.now; views = views.now; runs = runs.now; borrows = borrows.now; ids = ids.now; pool = pool.now }) m)).segments }
-    ensures out_views_after { out_views.new ≡ write out_views.old (c.views * 16) (layout_at c (manifest_in (record { segments = segments.entry.now; views = views.now; runs = runs.now; borrows = borrows.now; ids = ids.now; pool = pool.now }) m)).views }
-    ensures out_runs_after { out_runs.new ≡ write out_runs.old (c.runs * 3) (layout_at c (manifest_in (record { segments = segments.entry.now; views = views.now; runs = runs.now; borrows = borrows.now; ids = ids.now; pool = pool.now }) m)).runs }
-    ensures out_borrows_after { out_borrows.new ≡ write out_borrows.old (c.borrows * 9) (layout_at c (manifest_in (record { segments = segments.entry.now; views = views.now; runs = runs.now; borrows = borrows.now; ids = ids.now; pool = pool.now }) m)).borrows }
-    ensures out_ids_after { out_ids.new ≡ write out_ids.old (c.ids * 2) (layout_at c (manifest_in (record { segments = segments.entry.now; views = views.now; runs = runs.now; borrows = borrows.now; ids = ids.now; pool = pool.now }) m)).ids }
-    ensures out_pool_after { out_pool.new ≡ write out_pool.old c.bytes (layout_at c (manifest_in (record { segments = segments.entry.now; views = views.now; runs = runs.now; borrows = borrows.now; ids = ids.now; pool = pool.now }) m)).pool }
+    ensures value { result ≡ manifest_row_at c (manifest_in (record { segments = segments.now; views = views.now; runs = runs.now; borrows = borrows.now; ids = ids.now; pool = pool.now }) m) }
+    ensures out_segments_after { out_segments.new ≡ write out_segments.old (c.segments * 12) (layout_at c (manifest_in (record { segments = segments.now; views = views.now; runs = runs.now; borrows = borrows.now; ids = ids.now; pool = pool.now }) m)).segments }
+    ensures out_views_after { out_views.new ≡ write out_views.old (c.views * 16) (layout_at c (manifest_in (record { segments = segments.now; views = views.now; runs = runs.now; borrows = borrows.now; ids = ids.now; pool = pool.now }) m)).views }
+    ensures out_runs_after { out_runs.new ≡ write out_runs.old (c.runs * 3) (layout_at c (manifest_in (record { segments = segments.now; views = views.now; runs = runs.now; borrows = borrows.now; ids = ids.now; pool = pool.now }) m)).runs }
+    ensures out_borrows_after { out_borrows.new ≡ write out_borrows.old (c.borrows * 9) (layout_at c (manifest_in (record { segments = segments.now; views = views.now; runs = runs.now; borrows = borrows.now; ids = ids.now; pool = pool.now }) m)).borrows }
+    ensures out_ids_after { out_ids.new ≡ write out_ids.old (c.ids * 2) (layout_at c (manifest_in (record { segments = segments.now; views = views.now; runs = runs.now; borrows = borrows.now; ids = ids.now; pool = pool.now }) m)).ids }
+    ensures out_pool_after { out_pool.new ≡ write out_pool.old c.bytes (layout_at c (manifest_in (record { segments = segments.now; views = views.now; runs = runs.now; borrows = borrows.now; ids = ids.now; pool = pool.now }) m)).pool }
 {
     let t = m.tree;
     let w = m.segments;
@@ -229,7 +229,7 @@ pub fn copy_at(
     c: Fill,
 ) -> Copied
     requires { fits c (room_of (record { segments = out_segments.old; views = out_views.old; runs = out_runs.old; borrows = out_borrows.old; ids = out_ids.old; pool = out_pool.old })) ≡ true }
-    ensures { record { answer = result; out = record { segments = out_segments.new; views = out_views.new; runs = out_runs.new; borrows = out_borrows.new; ids = out_ids.new; pool = out_pool.new } } ≡ copy_at_of lim c (record { segments = segments.entry.now; views = views.now; runs = runs.now; borrows = borrows.now; ids = ids.now; pool = pool.now }) m (record { segments = out_segments.old; views = out_views.old; runs = out_runs.old; borrows = out_borrows.old; ids = out_ids.old; pool = out_pool.old }) }
+    ensures { record { answer = result; out = record { segments = out_segments.new; views = out_views.new; runs = out_runs.new; borrows = out_borrows.new; ids = out_ids.new; pool = out_pool.new } } ≡ copy_at_of lim c (record { segments = segments.now; views = views.now; runs = runs.now; borrows = borrows.now; ids = ids.now; pool = pool.now }) m (record { segments = out_segments.old; views = out_views.old; runs = out_runs.old; borrows = out_borrows.old; ids = out_ids.old; pool = out_pool.old }) }
 {
     match measure(lim, segments, views, runs, borrows, ids, pool, m) {
         Measured::Broken => Copied::Refused(Refusal::Unlawful(1)),
@@ -283,7 +283,7 @@ pub fn canonical_copy(
     out_ids: &mut [u64],
     out_pool: &mut [u8],
 ) -> Copied
-    ensures { record { answer = result; out = record { segments = out_segments.new; views = out_views.new; runs = out_runs.new; borrows = out_borrows.new; ids = out_ids.new; pool = out_pool.new } } ≡ copy_of lim (record { segments = segments.entry.now; views = views.now; runs = runs.now; borrows = borrows.now; ids = ids.now; pool = pool.now }) m (record { segments = out_segments.old; views = out_views.old; runs = out_runs.old; borrows = out_borrows.old; ids = out_ids.old; pool = out_pool.old }) }
+    ensures { record { answer = result; out = record { segments = out_segments.new; views = out_views.new; runs = out_runs.new; borrows = out_borrows.new; ids = out_ids.new; pool = out_pool.new } } ≡ copy_of lim (record { segments = segments.now; views = views.now; runs = runs.now; borrows = borrows.now; ids = ids.now; pool = pool.now }) m (record { segments = out_segments.old; views = out_views.old; runs = out_runs.old; borrows = out_borrows.old; ids = out_ids.old; pool = out_pool.old }) }
 {
     let none = Fill {
         segments: 0,

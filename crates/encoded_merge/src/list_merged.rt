@@ -31,7 +31,7 @@ fn merge_into(
     out: &mut [u8],
 ) -> Written
     requires { (judged_of lim (lent segments.now views.now runs.now borrows.now ids.now pool.now) writer ≡ Lawful) × (judged_of lim (lent segments.now views.now runs.now borrows.now ids.now pool.now) compactor ≡ Lawful) }
-    ensures { record { answer = result; out = out.new } ≡ merged_to side lim (list_room (record { segments = out_segments.old; views = out_views.old; runs = out_runs.old; pool = out_pool.old })) out.old (manifest_in (lent segments.entry.now views.now runs.now borrows.now ids.now pool.now) writer).segments (manifest_in (lent segments.entry.now views.now runs.now borrows.now ids.now pool.now) compactor).segments }
+    ensures { record { answer = result; out = out.new } ≡ merged_to side lim (list_room (record { segments = out_segments.old; views = out_views.old; runs = out_runs.old; pool = out_pool.old })) out.old (manifest_in (lent segments.now views.now runs.now borrows.now ids.now pool.now) writer).segments (manifest_in (lent segments.now views.now runs.now borrows.now ids.now pool.now) compactor).segments }
 {
     match merge_judged(
         side,

@@ -42,7 +42,7 @@ pub fn lawful(
     pool: &[u8],
     m: ManifestRow,
 ) -> Judged
-    ensures { result ≡ judged_of lim (record { segments = segments.entry.now; views = views.now; runs = runs.now; borrows = borrows.now; ids = ids.now; pool = pool.now }) m }
+    ensures { result ≡ judged_of lim (record { segments = segments.now; views = views.now; runs = runs.now; borrows = borrows.now; ids = ids.now; pool = pool.now }) m }
 {
     if !l1(lim, segments, views, runs, borrows, ids, pool, m) {
         return Judged::Breaks(1);

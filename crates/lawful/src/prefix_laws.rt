@@ -77,7 +77,7 @@ pub fn l2(
     pool: &[u8],
     m: ManifestRow,
 ) -> bool
-    ensures { result ≡ l2_of (manifest_in (record { segments = segments.entry.now; views = views.now; runs = runs.now; borrows = borrows.now; ids = ids.now; pool = pool.now }) m) }
+    ensures { result ≡ l2_of (manifest_in (record { segments = segments.now; views = views.now; runs = runs.now; borrows = borrows.now; ids = ids.now; pool = pool.now }) m) }
 {
     let w = m.segments;
     ascends(segments, pool, w)
@@ -94,7 +94,7 @@ pub fn l3(
     pool: &[u8],
     m: ManifestRow,
 ) -> bool
-    ensures { result ≡ (l2_of (manifest_in (record { segments = segments.entry.now; views = views.now; runs = runs.now; borrows = borrows.now; ids = ids.now; pool = pool.now }) m) && l3_of (manifest_in (record { segments = segments.entry.now; views = views.now; runs = runs.now; borrows = borrows.now; ids = ids.now; pool = pool.now }) m)) }
+    ensures { result ≡ (l2_of (manifest_in (record { segments = segments.now; views = views.now; runs = runs.now; borrows = borrows.now; ids = ids.now; pool = pool.now }) m) && l3_of (manifest_in (record { segments = segments.now; views = views.now; runs = runs.now; borrows = borrows.now; ids = ids.now; pool = pool.now }) m)) }
 {
     let w = m.segments;
     if ascends(segments, pool, w) {

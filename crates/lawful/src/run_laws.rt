@@ -119,7 +119,7 @@ pub fn l5(
     pool: &[u8],
     m: ManifestRow,
 ) -> bool
-    ensures { result ≡ l5_of (manifest_in (record { segments = segments.entry.now; views = views.now; runs = runs.now; borrows = borrows.now; ids = ids.now; pool = pool.now }) m) }
+    ensures { result ≡ l5_of (manifest_in (record { segments = segments.now; views = views.now; runs = runs.now; borrows = borrows.now; ids = ids.now; pool = pool.now }) m) }
 {
     let t = m.tree;
     let own = t.compacted;

@@ -158,7 +158,7 @@ pub fn l4(
     pool: &[u8],
     m: ManifestRow,
 ) -> bool
-    ensures { result ≡ l4_of (manifest_in (record { segments = segments.entry.now; views = views.now; runs = runs.now; borrows = borrows.now; ids = ids.now; pool = pool.now }) m) }
+    ensures { result ≡ l4_of (manifest_in (record { segments = segments.now; views = views.now; runs = runs.now; borrows = borrows.now; ids = ids.now; pool = pool.now }) m) }
 {
     let t = m.tree;
     let w = m.segments;

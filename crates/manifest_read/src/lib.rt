@@ -34,7 +34,7 @@ fn judged_copy(
     c: Fill,
 ) -> Copied
     requires { fits c (room_of (record { segments = out_segments.old; views = out_views.old; runs = out_runs.old; borrows = out_borrows.old; ids = out_ids.old; pool = out_pool.old })) ≡ true }
-    ensures { record { answer = result; out = record { segments = out_segments.new; views = out_views.new; runs = out_runs.new; borrows = out_borrows.new; ids = out_ids.new; pool = out_pool.new } } ≡ by_law (judged_of lim (record { segments = segments.entry.now; views = views.now; runs = runs.now; borrows = borrows.now; ids = ids.now; pool = pool.now }) m) (copy_at_of lim c (record { segments = segments.entry.now; views = views.now; runs = runs.now; borrows = borrows.now; ids = ids.now; pool = pool.now }) m (record { segments = out_segments.old; views = out_views.old; runs = out_runs.old; borrows = out_borrows.old; ids = out_ids.old; pool = out_pool.old })) (record { segments = out_segments.old; views = out_views.old; runs = out_runs.old; borrows = out_borrows.old; ids = out_ids.old; pool = out_pool.old }) }
+    ensures { record { answer = result; out = record { segments = out_segments.new; views = out_views.new; runs = out_runs.new; borrows = out_borrows.new; ids = out_ids.new; pool = out_pool.new } } ≡ by_law (judged_of lim (record { segments = segments.old; views = views.now; runs = runs.now; borrows = borrows.now; ids = ids.now; pool = pool.now }) m) (copy_at_of lim c (record { segments = segments.old; views = views.now; runs = runs.now; borrows = borrows.now; ids = ids.now; pool = pool.now }) m (record { segments = out_segments.old; views = out_views.old; runs = out_runs.old; borrows = out_borrows.old; ids = out_ids.old; pool = out_pool.old })) (record { segments = out_segments.old; views = out_views.old; runs = out_runs.old; borrows = out_borrows.old; ids = out_ids.old; pool = out_pool.old }) }
 {
     match lawful(lim, segments, views, runs, borrows, ids, pool, m) {
         Judged::Breaks(rule) => Copied::Refused(Refusal::Unlawful(rule)),
@@ -76,7 +76,7 @@ fn read_rows(
     c: Fill,
 ) -> Copied
     requires out_pool_value { fits c (room_of (record { segments = out_segments.old; views = out_views.old; runs = out_runs.old; borrows = out_borrows.old; ids = out_ids.old; pool = out_pool.old })) ≡ true }
-    requires s_value { fits lim.fill (work_room lim (record { segments = segments.now; views = views.old; runs = runs.old; borrows = borrows.old; ids = ids.old; pool = s.now })) ≡ true }
+    requires s_value { fits lim.fill (work_room lim (record { segments = segments.old; views = views.old; runs = runs.old; borrows = borrows.old; ids = ids.old; pool = s.now })) ≡ true }
     ensures { record { answer = result; out = record { segments = out_segments.new; views = out_views.new; runs = out_runs.new; borrows = out_borrows.new; ids = out_ids.new; pool = out_pool.new } } ≡ by_record lim (λ m. given_at lim c m (record { segments = out_segments.old; views = out_views.old; runs = out_runs.old; borrows = out_borrows.old; ids = out_ids.old; pool = out_pool.old })) (record { segments = out_segments.old; views = out_views.old; runs = out_runs.old; borrows = out_borrows.old; ids = out_ids.old; pool = out_pool.old }) (manifest_at s.now 0) }
 {
     match fill_manifest(s, segments, views, runs, borrows, ids) {
@@ -129,7 +129,7 @@ pub fn read_at(
     c: Fill,
 ) -> Copied
     requires { fits c (room_of (record { segments = out_segments.old; views = out_views.old; runs = out_runs.old; borrows = out_borrows.old; ids = out_ids.old; pool = out_pool.old })) ≡ true }
-    ensures { record { answer = result; out = record { segments = out_segments.new; views = out_views.new; runs = out_runs.new; borrows = out_borrows.new; ids = out_ids.new; pool = out_pool.new } } ≡ read_at_of lim s.now (record { segments = segments.entry.now; views = views.old; runs = runs.old; borrows = borrows.old; ids = ids.old; pool = s.now }) (record { segments = out_segments.old; views = out_views.old; runs = out_runs.old; borrows = out_borrows.old; ids = out_ids.old; pool = out_pool.old }) c }
+    ensures { record { answer = result; out = record { segments = out_segments.new; views = out_views.new; runs = out_runs.new; borrows = out_borrows.new; ids = out_ids.new; pool = out_pool.new } } ≡ read_at_of lim s.now (record { segments = segments.old; views = views.old; runs = runs.old; borrows = borrows.old; ids = ids.old; pool = s.now }) (record { segments = out_segments.old; views = out_views.old; runs = out_runs.old; borrows = out_borrows.old; ids = out_ids.old; pool = out_pool.old }) c }
 {
     if LONGEST < s.len() {
         return Copied::Refused(Refusal::OverLimit);
@@ -185,7 +185,7 @@ pub fn read(
     out_ids: &mut [u64],
     out_pool: &mut [u8],
 ) -> Copied
-    ensures { record { answer = result; out = record { segments = out_segments.new; views = out_views.new; runs = out_runs.new; borrows = out_borrows.new; ids = out_ids.new; pool = out_pool.new } } ≡ read_of lim s.now (record { segments = segments.entry.now; views = views.old; runs = runs.old; borrows = borrows.old; ids = ids.old; pool = s.now }) (record { segments = out_segments.old; views = out_views.old; runs = out_runs.old; borrows = out_borrows.old; ids = out_ids.old; pool = out_pool.old }) }
+    ensures { record { answer = result; out = record { segments = out_segments.new; views = out_views.new; runs = out_runs.new; borrows = out_borrows.new; ids = out_ids.new; pool = out_pool.new } } ≡ read_of lim s.now (record { segments = segments.old; views = views.old; runs = runs.old; borrows = borrows.old; ids = ids.old; pool = s.now }) (record { segments = out_segments.old; views = out_views.old; runs = out_runs.old; borrows = out_borrows.old; ids = out_ids.old; pool = out_pool.old }) }
 {
     let none = Fill {
         segments: 0,

@@ -71,7 +71,7 @@ pub fn add_manifest(
     out: &mut [u8],
     at: usize,
 ) -> usize
-    ensures { Wrote out.old at (manifest_bytes (manifest_in (record { segments = segments.entry.now; views = views.now; runs = runs.now; borrows = borrows.now; ids = ids.now; pool = pool.now }) m)) result out.new }
+    ensures { Wrote out.old at (manifest_bytes (manifest_in (record { segments = segments.now; views = views.now; runs = runs.now; borrows = borrows.now; ids = ids.now; pool = pool.now }) m)) result out.new }
 {
     let w = m.external_dbs;
     let p0 = add_array(12, out, at);
@@ -116,7 +116,7 @@ pub fn write_judged(
     m: ManifestRow,
     out: &mut [u8],
 ) -> Written
-    ensures { record { answer = result; out = out.new } ≡ put_of (manifest_bytes (manifest_in (record { segments = segments.entry.now; views = views.now; runs = runs.now; borrows = borrows.now; ids = ids.now; pool = pool.now }) m)) out.old }
+    ensures { record { answer = result; out = out.new } ≡ put_of (manifest_bytes (manifest_in (record { segments = segments.now; views = views.now; runs = runs.now; borrows = borrows.now; ids = ids.now; pool = pool.now }) m)) out.old }
 {
     let mut nowhere = [0u8; 1];
     let n = add_manifest(
@@ -149,7 +149,7 @@ pub fn write(
     m: ManifestRow,
     out: &mut [u8],
 ) -> Written
-    ensures { record { answer = result; out = out.new } ≡ write_of lim (record { segments = segments.entry.now; views = views.now; runs = runs.now; borrows = borrows.now; ids = ids.now; pool = pool.now }) m out.old }
+    ensures { record { answer = result; out = out.new } ≡ write_of lim (record { segments = segments.now; views = views.now; runs = runs.now; borrows = borrows.now; ids = ids.now; pool = pool.now }) m out.old }
 {
     match lawful(lim, segments, views, runs, borrows, ids, pool, m) {
         Judged::Breaks(rule) => Written::Refused(Refusal::Unlawful(rule)),

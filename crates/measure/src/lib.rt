@@ -105,7 +105,7 @@ pub fn measure(
     pool: &[u8],
     m: ManifestRow,
 ) -> Measured
-    ensures { result ≡ measured_of lim (record { segments = segments.entry.now; views = views.now; runs = runs.now; borrows = borrows.now; ids = ids.now; pool = pool.now }) m }
+    ensures { result ≡ measured_of lim (record { segments = segments.now; views = views.now; runs = runs.now; borrows = borrows.now; ids = ids.now; pool = pool.now }) m }
 {
     let n = pool.len();
     let t = m.tree;
@@ -146,7 +146,7 @@ pub fn l1(
     pool: &[u8],
     m: ManifestRow,
 ) -> bool
-    ensures { result ≡ l1_of lim (record { segments = segments.entry.now; views = views.now; runs = runs.now; borrows = borrows.now; ids = ids.now; pool = pool.now }) m }
+    ensures { result ≡ l1_of lim (record { segments = segments.now; views = views.now; runs = runs.now; borrows = borrows.now; ids = ids.now; pool = pool.now }) m }
 {
     let r = measure(lim, segments, views, runs, borrows, ids, pool, m);
     match r {

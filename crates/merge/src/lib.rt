@@ -117,7 +117,7 @@ fn give(
 ) -> Merged
     requires w_value { (chain less_of (prefixes_in segments.now pool.now w) ≡ true) × (chain less_of (prefixes_in segments.now pool.now c) ≡ true) }
     requires w_value_2 { (all_of (row_kept lim views.now runs.now pool.now) (rows_in segments.now w) ≡ true) × (all_of (row_kept lim views.now runs.now pool.now) (rows_in segments.now c) ≡ true) }
-    ensures { record { answer = result; out = record { segments = out_segments.new; views = out_views.new; runs = out_runs.new; pool = out_pool.new } } ≡ list_given lim (merged_from side (segments_in segments.entry.now runs.now views.now pool.now w) (segments_in segments.entry.now runs.now views.now pool.now c)) (record { segments = out_segments.old; views = out_views.old; runs = out_runs.old; pool = out_pool.old }) }
+    ensures { record { answer = result; out = record { segments = out_segments.new; views = out_views.new; runs = out_runs.new; pool = out_pool.new } } ≡ list_given lim (merged_from side (segments_in segments.now runs.now views.now pool.now w) (segments_in segments.now runs.now views.now pool.now c)) (record { segments = out_segments.old; views = out_views.old; runs = out_runs.old; pool = out_pool.old }) }
 {
     let u = measure_merged(side, lim, segments, runs, views, pool, w, c);
     let Measured::Fills(f) = u else {
@@ -172,7 +172,7 @@ pub fn merge_judged(
     out_pool: &mut [u8],
 ) -> Merged
     requires { (judged_of lim (record { segments = segments.now; views = views.now; runs = runs.now; borrows = borrows.now; ids = ids.now; pool = pool.now }) writer ≡ Lawful) × (judged_of lim (record { segments = segments.now; views = views.now; runs = runs.now; borrows = borrows.now; ids = ids.now; pool = pool.now }) compactor ≡ Lawful) }
-    ensures { record { answer = result; out = record { segments = out_segments.new; views = out_views.new; runs = out_runs.new; pool = out_pool.new } } ≡ given_by side lim (manifest_in (record { segments = segments.entry.now; views = views.now; runs = runs.now; borrows = borrows.now; ids = ids.now; pool = pool.now }) writer).segments (manifest_in (record { segments = segments.entry.now; views = views.now; runs = runs.now; borrows = borrows.now; ids = ids.now; pool = pool.now }) compactor).segments (record { segments = out_segments.old; views = out_views.old; runs = out_runs.old; pool = out_pool.old }) }
+    ensures { record { answer = result; out = record { segments = out_segments.new; views = out_views.new; runs = out_runs.new; pool = out_pool.new } } ≡ given_by side lim (manifest_in (record { segments = segments.now; views = views.now; runs = runs.now; borrows = borrows.now; ids = ids.now; pool = pool.now }) writer).segments (manifest_in (record { segments = segments.now; views = views.now; runs = runs.now; borrows = borrows.now; ids = ids.now; pool = pool.now }) compactor).segments (record { segments = out_segments.old; views = out_views.old; runs = out_runs.old; pool = out_pool.old }) }
 {
     let w = writer.segments;
     let c = compactor.segments;
@@ -212,7 +212,7 @@ fn merge_segments(
     out_runs: &mut [u64],
     out_pool: &mut [u8],
 ) -> Merged
-    ensures { record { answer = result; out = record { segments = out_segments.new; views = out_views.new; runs = out_runs.new; pool = out_pool.new } } ≡ merge_of side lim (record { segments = segments.entry.now; views = views.now; runs = runs.now; borrows = borrows.now; ids = ids.now; pool = pool.now }) writer compactor (record { segments = out_segments.old; views = out_views.old; runs = out_runs.old; pool = out_pool.old }) }
+    ensures { record { answer = result; out = record { segments = out_segments.new; views = out_views.new; runs = out_runs.new; pool = out_pool.new } } ≡ merge_of side lim (record { segments = segments.now; views = views.now; runs = runs.now; borrows = borrows.now; ids = ids.now; pool = pool.now }) writer compactor (record { segments = out_segments.old; views = out_views.old; runs = out_runs.old; pool = out_pool.old }) }
 {
     let a = lawful(lim, segments, views, runs, borrows, ids, pool, writer);
     match a {
@@ -258,7 +258,7 @@ pub fn merge_segments_from_writer(
     out_runs: &mut [u64],
     out_pool: &mut [u8],
 ) -> Merged
-    ensures { record { answer = result; out = record { segments = out_segments.new; views = out_views.new; runs = out_runs.new; pool = out_pool.new } } ≡ merge_of Writer lim (record { segments = segments.entry.now; views = views.now; runs = runs.now; borrows = borrows.now; ids = ids.now; pool = pool.now }) writer compactor (record { segments = out_segments.old; views = out_views.old; runs = out_runs.old; pool = out_pool.old }) }
+    ensures { record { answer = result; out = record { segments = out_segments.new; views = out_views.new; runs = out_runs.new; pool = out_pool.new } } ≡ merge_of Writer lim (record { segments = segments.now; views = views.now; runs = runs.now; borrows = borrows.now; ids = ids.now; pool = pool.now }) writer compactor (record { segments = out_segments.old; views = out_views.old; runs = out_runs.old; pool = out_pool.old }) }
 {
     merge_segments(
         Side::Writer,
@@ -294,7 +294,7 @@ pub fn merge_segments_from_compactor(
     out_runs: &mut [u64],
     out_pool: &mut [u8],
 ) -> Merged
-    ensures { record { answer = result; out = record { segments = out_segments.new; views = out_views.new; runs = out_runs.new; pool = out_pool.new } } ≡ merge_of Compactor lim (record { segments = segments.entry.now; views = views.now; runs = runs.now; borrows = borrows.now; ids = ids.now; pool = pool.now }) writer compactor (record { segments = out_segments.old; views = out_views.old; runs = out_runs.old; pool = out_pool.old }) }
+    ensures { record { answer = result; out = record { segments = out_segments.new; views = out_views.new; runs = out_runs.new; pool = out_pool.new } } ≡ merge_of Compactor lim (record { segments = segments.now; views = views.now; runs = runs.now; borrows = borrows.now; ids = ids.now; pool = pool.now }) writer compactor (record { segments = out_segments.old; views = out_views.old; runs = out_runs.old; pool = out_pool.old }) }
 {
     merge_segments(
         Side::Compactor,

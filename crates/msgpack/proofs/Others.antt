@@ -49,17 +49,18 @@ module _ {B : Type 0} (ks : List ℕ) (f : Head → B) (o : B) where
     pub array : T (mem ks 8) → (n p : ℕ) → f (head.Array n p) ≡ o
     pub map : T (mem ks 9) → (n p : ℕ) → f (head.Map n p) ≡ o
 
-  elsewhere_of : Elsewhere → (h : Head) → OneOf ks (tag_of the_type h) → f h ≡ o
-  elsewhere_of e head.Cut t = e.cut (one_of ks 0 t)
-  elsewhere_of e head.Never t = e.never (one_of ks 1 t)
-  elsewhere_of e (head.Nil p) t = e.nil (one_of ks 2 t) p
-  elsewhere_of e (head.Flag b p) t = e.flag (one_of ks 3 t) b p
-  elsewhere_of e (head.Uint x p) t = e.uint (one_of ks 4 t) x p
-  elsewhere_of e (head.Minus m p) t = e.minus (one_of ks 5 t) m p
-  elsewhere_of e (head.Bin a n p) t = e.bin (one_of ks 6 t) a n p
-  elsewhere_of e (head.Other p) t = e.other (one_of ks 7 t) p
-  elsewhere_of e (head.Array n p) t = e.array (one_of ks 8 t) n p
-  elsewhere_of e (head.Map n p) t = e.map (one_of ks 9 t) n p
+  pub elsewhere : Elsewhere → (h : Head) → OneOf ks (tag_of the_type h) → f h ≡ o
+  elsewhere e head.Cut t = e.cut (one_of ks 0 t)
+  elsewhere e head.Never t = e.never (one_of ks 1 t)
+  elsewhere e (head.Nil p) t = e.nil (one_of ks 2 t) p
+  elsewhere e (head.Flag b p) t = e.flag (one_of ks 3 t) b p
+  elsewhere e (head.Uint x p) t = e.uint (one_of ks 4 t) x p
+  elsewhere e (head.Minus m p) t = e.minus (one_of ks 5 t) m p
+  elsewhere e (head.Bin a n p) t = e.bin (one_of ks 6 t) a n p
+  elsewhere e (head.Other p) t = e.other (one_of ks 7 t) p
+  elsewhere e (head.Array n p) t = e.array (one_of ks 8 t) n p
+  elsewhere e (head.Map n p) t = e.map (one_of ks 9 t) n p
 
-  pub elsewhere : Elsewhere → (h : Head) → Among ks (tag_of the_type h) → f h ≡ o
-  elsewhere e h t = elsewhere_of e h (opened t)
+  -- the same of the sealed form in which a match has it
+  pub elsewhere_among : Elsewhere → (h : Head) → Among ks (tag_of the_type h) → f h ≡ o
+  elsewhere_among e h t = elsewhere e h (opened t)

@@ -56,7 +56,7 @@ fn give_copy(
     out_pool: &mut [u8],
 ) -> ProjectedAs
     requires { judged_of lim (record { segments = segments.now; views = views.now; runs = runs.now; borrows = borrows.now; ids = ids.now; pool = pool.now }) m ≡ Lawful }
-    ensures { record { answer = result; out = (record { segments = out_segments.new; views = out_views.new; runs = out_runs.new; borrows = out_borrows.new; ids = out_ids.new; pool = out_pool.new }) } ≡ filled_to lim names (manifest_in (record { segments = segments.entry.now; views = views.now; runs = runs.now; borrows = borrows.now; ids = ids.now; pool = pool.now }) m) (record { segments = out_segments.old; views = out_views.old; runs = out_runs.old; borrows = out_borrows.old; ids = out_ids.old; pool = out_pool.old }) }
+    ensures { record { answer = result; out = (record { segments = out_segments.new; views = out_views.new; runs = out_runs.new; borrows = out_borrows.new; ids = out_ids.new; pool = out_pool.new }) } ≡ filled_to lim names (manifest_in (record { segments = segments.now; views = views.now; runs = runs.now; borrows = borrows.now; ids = ids.now; pool = pool.now }) m) (record { segments = out_segments.old; views = out_views.old; runs = out_runs.old; borrows = out_borrows.old; ids = out_ids.old; pool = out_pool.old }) }
 {
     match canonical_copy(
         lim,
@@ -103,7 +103,7 @@ fn give_listed(
 ) -> ProjectedAs
     requires used_value { ids_of used.now ≡ ids_used (all_views (narrowed (config_in pool.now config own.now) (manifest_in (record { segments = segments.now; views = views.now; runs = runs.now; borrows = borrows.now; ids = ids.now; pool = pool.now }) m))) }
     requires d_value { d ≡ body_fill (narrowed (config_in pool.now config own.now) (manifest_in (record { segments = segments.now; views = views.now; runs = runs.now; borrows = borrows.now; ids = ids.now; pool = pool.now }) m)) }
-    ensures { record { answer = result; out = (record { segments = out_segments.new; views = out_views.new; runs = out_runs.new; borrows = out_borrows.new; ids = out_ids.new; pool = out_pool.new }) } ≡ filled_to lim names (with_used (narrowed (config_in pool.now config own.now) (manifest_in (record { segments = segments.entry.now; views = views.now; runs = runs.now; borrows = borrows.now; ids = ids.now; pool = pool.now }) m))) (record { segments = out_segments.old; views = out_views.old; runs = out_runs.old; borrows = out_borrows.old; ids = out_ids.old; pool = out_pool.old }) }
+    ensures { record { answer = result; out = (record { segments = out_segments.new; views = out_views.new; runs = out_runs.new; borrows = out_borrows.new; ids = out_ids.new; pool = out_pool.new }) } ≡ filled_to lim names (with_used (narrowed (config_in pool.now config own.now) (manifest_in (record { segments = segments.now; views = views.now; runs = runs.now; borrows = borrows.now; ids = ids.now; pool = pool.now }) m))) (record { segments = out_segments.old; views = out_views.old; runs = out_runs.old; borrows = out_borrows.old; ids = out_ids.old; pool = out_pool.old }) }
 {
     let most = lim.fill;
     let w = m.external_dbs;
@@ -175,7 +175,7 @@ fn give_narrowed(
     out_pool: &mut [u8],
 ) -> ProjectedAs
     requires { judged_of lim (record { segments = segments.now; views = views.now; runs = runs.now; borrows = borrows.now; ids = ids.now; pool = pool.now }) m ≡ Lawful }
-    ensures { record { answer = result; out = (record { segments = out_segments.new; views = out_views.new; runs = out_runs.new; borrows = out_borrows.new; ids = out_ids.new; pool = out_pool.new }) } ≡ listed_to lim names (length used.old / 2) (with_used (narrowed (config_in pool.now config own.now) (manifest_in (record { segments = segments.entry.now; views = views.now; runs = runs.now; borrows = borrows.now; ids = ids.now; pool = pool.now }) m))) (record { segments = out_segments.old; views = out_views.old; runs = out_runs.old; borrows = out_borrows.old; ids = out_ids.old; pool = out_pool.old }) }
+    ensures { record { answer = result; out = (record { segments = out_segments.new; views = out_views.new; runs = out_runs.new; borrows = out_borrows.new; ids = out_ids.new; pool = out_pool.new }) } ≡ listed_to lim names (length used.old / 2) (with_used (narrowed (config_in pool.now config own.now) (manifest_in (record { segments = segments.now; views = views.now; runs = runs.now; borrows = borrows.now; ids = ids.now; pool = pool.now }) m))) (record { segments = out_segments.old; views = out_views.old; runs = out_runs.old; borrows = out_borrows.old; ids = out_ids.old; pool = out_pool.old }) }
 {
     let t = m.tree;
     let w = m.segments;
@@ -233,7 +233,7 @@ fn give(
     out_pool: &mut [u8],
 ) -> ProjectedAs
     requires { judged_of lim (record { segments = segments.now; views = views.now; runs = runs.now; borrows = borrows.now; ids = ids.now; pool = pool.now }) m ≡ Lawful }
-    ensures { record { answer = result; out = (record { segments = out_segments.new; views = out_views.new; runs = out_runs.new; borrows = out_borrows.new; ids = out_ids.new; pool = out_pool.new }) } ≡ projected_to lim (config_in pool.now config own.now) (length used.old / 2) (projected_of (config_in pool.now config own.now) (manifest_in (record { segments = segments.entry.now; views = views.now; runs = runs.now; borrows = borrows.now; ids = ids.now; pool = pool.now }) m)) (record { segments = out_segments.old; views = out_views.old; runs = out_runs.old; borrows = out_borrows.old; ids = out_ids.old; pool = out_pool.old }) }
+    ensures { record { answer = result; out = (record { segments = out_segments.new; views = out_views.new; runs = out_runs.new; borrows = out_borrows.new; ids = out_ids.new; pool = out_pool.new }) } ≡ projected_to lim (config_in pool.now config own.now) (length used.old / 2) (projected_of (config_in pool.now config own.now) (manifest_in (record { segments = segments.now; views = views.now; runs = runs.now; borrows = borrows.now; ids = ids.now; pool = pool.now }) m)) (record { segments = out_segments.old; views = out_views.old; runs = out_runs.old; borrows = out_borrows.old; ids = out_ids.old; pool = out_pool.old }) }
 {
     let filter = config.segment_filter;
     let names = names_count(filter);
@@ -300,7 +300,7 @@ pub fn projected_judged(
     out_pool: &mut [u8],
 ) -> ProjectedAs
     requires { judged_of lim (record { segments = segments.now; views = views.now; runs = runs.now; borrows = borrows.now; ids = ids.now; pool = pool.now }) m ≡ Lawful }
-    ensures { record { answer = result; out = (record { segments = out_segments.new; views = out_views.new; runs = out_runs.new; borrows = out_borrows.new; ids = out_ids.new; pool = out_pool.new }) } ≡ projected_given lim (config_in pool.now c own.now) (length used.old / 2) (manifest_in (record { segments = segments.entry.now; views = views.now; runs = runs.now; borrows = borrows.now; ids = ids.now; pool = pool.now }) m) (record { segments = out_segments.old; views = out_views.old; runs = out_runs.old; borrows = out_borrows.old; ids = out_ids.old; pool = out_pool.old }) }
+    ensures { record { answer = result; out = (record { segments = out_segments.new; views = out_views.new; runs = out_runs.new; borrows = out_borrows.new; ids = out_ids.new; pool = out_pool.new }) } ≡ projected_given lim (config_in pool.now c own.now) (length used.old / 2) (manifest_in (record { segments = segments.now; views = views.now; runs = runs.now; borrows = borrows.now; ids = ids.now; pool = pool.now }) m) (record { segments = out_segments.old; views = out_views.old; runs = out_runs.old; borrows = out_borrows.old; ids = out_ids.old; pool = out_pool.old }) }
 {
     if global_empty(pool, c) {
         return ProjectedAs::Refused(Refusal::EmptyRange);
@@ -356,7 +356,7 @@ pub fn projected(
     out_ids: &mut [u64],
     out_pool: &mut [u8],
 ) -> ProjectedAs
-    ensures { record { answer = result; out = (record { segments = out_segments.new; views = out_views.new; runs = out_runs.new; borrows = out_borrows.new; ids = out_ids.new; pool = out_pool.new }) } ≡ projected_in lim (record { segments = segments.entry.now; views = views.now; runs = runs.now; borrows = borrows.now; ids = ids.now; pool = pool.now }) m c own.now used.old (record { segments = out_segments.old; views = out_views.old; runs = out_runs.old; borrows = out_borrows.old; ids = out_ids.old; pool = out_pool.old }) }
+    ensures { record { answer = result; out = (record { segments = out_segments.new; views = out_views.new; runs = out_runs.new; borrows = out_borrows.new; ids = out_ids.new; pool = out_pool.new }) } ≡ projected_in lim (record { segments = segments.now; views = views.now; runs = runs.now; borrows = borrows.now; ids = ids.now; pool = pool.now }) m c own.now used.old (record { segments = out_segments.old; views = out_views.old; runs = out_runs.old; borrows = out_borrows.old; ids = out_ids.old; pool = out_pool.old }) }
 {
     if config_over(lim.key, pool.len(), m.segments.count, c, own) {
         return ProjectedAs::Refused(Refusal::OverLimit);

@@ -97,7 +97,7 @@ pub fn tree_for_segment(
     m: ManifestRow,
     prefix: &[u8],
 ) -> Looked
-    ensures { result ≡ looked_of lim (record { segments = segments.entry.now; views = views.now; runs = runs.now; borrows = borrows.now; ids = ids.now; pool = pool.now }) m prefix.now }
+    ensures { result ≡ looked_of lim (record { segments = segments.now; views = views.now; runs = runs.now; borrows = borrows.now; ids = ids.now; pool = pool.now }) m prefix.now }
 {
     if lim.prefix < prefix.len() {
         return Looked::Refused(Refusal::OverLimit);
@@ -269,7 +269,7 @@ pub fn select_segments(
     args: &[u8],
     r: Range,
 ) -> Selected
-    ensures { result ≡ selected_of lim (record { segments = segments.entry.now; views = views.now; runs = runs.now; borrows = borrows.now; ids = ids.now; pool = pool.now }) m args.now r }
+    ensures { result ≡ selected_of lim (record { segments = segments.now; views = views.now; runs = runs.now; borrows = borrows.now; ids = ids.now; pool = pool.now }) m args.now r }
 {
     if range_over(lim.key, args.len(), r) {
         return Selected::Refused(Refusal::OverLimit);

@@ -146,7 +146,7 @@ fn source_judged(
     pool: &[u8],
 ) -> Judged
     requires { b + 22 ≤ length sources.now }
-    ensures { result ≡ source_judged lim (record { segments = segments.entry.now; views = views.now; runs = runs.now; borrows = borrows.now; ids = ids.now; pool = pool.now }) sources.now b }
+    ensures { result ≡ source_judged lim (record { segments = segments.now; views = views.now; runs = runs.now; borrows = borrows.now; ids = ids.now; pool = pool.now }) sources.now b }
 {
     if !codes_known(sources, b) {
         return Judged::Breaks(1);
@@ -169,7 +169,7 @@ pub fn sources_judged(
     pool: &[u8],
 ) -> Judged
     requires { n * 22 ≤ length sources.now }
-    ensures { result ≡ sources_judged lim (record { segments = segments.entry.now; views = views.now; runs = runs.now; borrows = borrows.now; ids = ids.now; pool = pool.now }) sources.now n }
+    ensures { result ≡ sources_judged lim (record { segments = segments.now; views = views.now; runs = runs.now; borrows = borrows.now; ids = ids.now; pool = pool.now }) sources.now n }
 {
     let mut i = 0;
     while i < n {

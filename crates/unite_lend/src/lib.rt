@@ -148,7 +148,7 @@ fn list_owned(
     requires b_in_bounds { b + 22 ≤ length sources.now }
     requires b_value { judged_of lim (record { segments = segments.now; views = views.now; runs = runs.now; borrows = borrows.now; ids = ids.now; pool = pool.now }) (manifest_at_word sources.now b) ≡ Lawful }
     requires views_in_bounds { lim.fill.views * 2 ≤ length owned.old }
-    ensures owned_after { ids_of (take (result * 2) owned.new) ≡ owned_of (manifest_in (record { segments = segments.entry.now; views = views.now; runs = runs.now; borrows = borrows.now; ids = ids.now; pool = pool.now }) (manifest_at_word sources.now b)) }
+    ensures owned_after { ids_of (take (result * 2) owned.new) ≡ owned_of (manifest_in (record { segments = segments.now; views = views.now; runs = runs.now; borrows = borrows.now; ids = ids.now; pool = pool.now }) (manifest_at_word sources.now b)) }
     ensures result_in_bounds { result * 2 ≤ length owned.new }
     ensures owned_len_bound { length (ids_of (take (result * 2) owned.new)) ≤ lim.fill.views }
     ensures owned_len_unchanged { length owned.new ≡ length owned.old }
@@ -182,7 +182,7 @@ fn group_own(
     requires groups_value { end_by g.ids groups.old g.groups ≡ true }
     requires groups_in_bounds { (g.groups + 1) * 6 ≤ length groups.old }
     requires views_in_bounds_2 { (g.ids + lim.fill.views) * 2 ≤ length work.old }
-    ensures groups_after { members_in groups.new work.new pool.now result.groups ≡ entered_from (supplies_in supplies.now pool.now n) (members_in groups.old work.old pool.now g.groups) (own_members (source_at_word (record { segments = segments.entry.now; views = views.now; runs = runs.now; borrows = borrows.now; ids = ids.now; pool = pool.now }) sources.now b)) }
+    ensures groups_after { members_in groups.new work.new pool.now result.groups ≡ entered_from (supplies_in supplies.now pool.now n) (members_in groups.old work.old pool.now g.groups) (own_members (source_at_word (record { segments = segments.now; views = views.now; runs = runs.now; borrows = borrows.now; ids = ids.now; pool = pool.now }) sources.now b)) }
     ensures groups_after_2 { end_by result.ids groups.new result.groups ≡ true }
     ensures groups_bound { result.groups ≤ g.groups + 1 }
     ensures ids_bound { result.ids ≤ g.ids + lim.fill.views }
@@ -224,7 +224,7 @@ fn group_source(
     requires groups_value { end_by g.ids groups.old g.groups ≡ true }
     requires borrows_in_bounds { (g.groups + (lim.fill.borrows + 1)) * 6 ≤ length groups.old }
     requires views_in_bounds_2 { (g.ids + (lim.fill.ids + lim.fill.views)) * 2 ≤ length work.old }
-    ensures groups_after { members_in groups.new work.new pool.now result.groups ≡ entered_from (supplies_in supplies.now pool.now n) (members_in groups.old work.old pool.now g.groups) (source_members (source_at_word (record { segments = segments.entry.now; views = views.now; runs = runs.now; borrows = borrows.now; ids = ids.now; pool = pool.now }) sources.now b)) }
+    ensures groups_after { members_in groups.new work.new pool.now result.groups ≡ entered_from (supplies_in supplies.now pool.now n) (members_in groups.old work.old pool.now g.groups) (source_members (source_at_word (record { segments = segments.now; views = views.now; runs = runs.now; borrows = borrows.now; ids = ids.now; pool = pool.now }) sources.now b)) }
     ensures groups_after_2 { end_by result.ids groups.new result.groups ≡ true }
     ensures groups_bound { result.groups ≤ g.groups + (lim.fill.borrows + 1) }
     ensures ids_bound { result.ids ≤ g.ids + (lim.fill.ids + lim.fill.views) }
@@ -266,7 +266,7 @@ fn group_at(
     requires groups_value { end_by g.ids groups.old g.groups ≡ true }
     requires borrows_in_bounds { (g.groups + (lim.fill.borrows + 1)) * 6 ≤ length groups.old }
     requires views_in_bounds_2 { (g.ids + (lim.fill.ids + lim.fill.views)) * 2 ≤ length work.old }
-    ensures groups_after { members_in groups.new work.new pool.now result.groups ≡ entered_from (supplies_in supplies.now pool.now n) (members_in groups.old work.old pool.now g.groups) (source_members (source_at_word (record { segments = segments.entry.now; views = views.now; runs = runs.now; borrows = borrows.now; ids = ids.now; pool = pool.now }) sources.now (at order.now (i * 7)))) }
+    ensures groups_after { members_in groups.new work.new pool.now result.groups ≡ entered_from (supplies_in supplies.now pool.now n) (members_in groups.old work.old pool.now g.groups) (source_members (source_at_word (record { segments = segments.now; views = views.now; runs = runs.now; borrows = borrows.now; ids = ids.now; pool = pool.now }) sources.now (at order.now (i * 7)))) }
     ensures groups_after_2 { end_by result.ids groups.new result.groups ≡ true }
     ensures groups_bound { result.groups ≤ g.groups + (lim.fill.borrows + 1) }
     ensures ids_bound { result.ids ≤ g.ids + (lim.fill.ids + lim.fill.views) }
@@ -306,7 +306,7 @@ pub fn group_sources(
     requires views_in_bounds { lim.fill.views * 2 ≤ length owned.old }
     requires borrows_in_bounds { most_sources * (lim.fill.borrows + 1) * 6 ≤ length groups.old }
     requires views_in_bounds_2 { most_sources * (lim.fill.ids + lim.fill.views) * 2 ≤ length work.old }
-    ensures result_after { members_in groups.new work.new pool.now result ≡ entered_from (supplies_in supplies.now pool.now n) [] (members_at (record { segments = segments.entry.now; views = views.now; runs = runs.now; borrows = borrows.now; ids = ids.now; pool = pool.now }) sources.now order.now n) }
+    ensures result_after { members_in groups.new work.new pool.now result ≡ entered_from (supplies_in supplies.now pool.now n) [] (members_at (record { segments = segments.now; views = views.now; runs = runs.now; borrows = borrows.now; ids = ids.now; pool = pool.now }) sources.now order.now n) }
     ensures result_in_bounds { result * 6 ≤ length groups.new }
 {
     let mut g = Grouped { groups: 0, ids: 0 };

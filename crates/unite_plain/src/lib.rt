@@ -45,7 +45,7 @@ pub fn group_used(
     requires views_in_bounds { lim.fill.views * 2 ≤ length owned.old }
     requires borrows_in_bounds { most_sources * (lim.fill.borrows + 1) * 6 ≤ length groups.old }
     requires views_in_bounds_2 { most_sources * (lim.fill.ids + lim.fill.views) * 2 ≤ length sets.old }
-    ensures result_after { members_in groups.new sets.new pool.now result ≡ chosen_all (supplies_of (map (source_at_word (record { segments = segments.entry.now; views = views.now; runs = runs.now; borrows = borrows.now; ids = ids.now; pool = pool.now }) sources.now) (begins order.now n))) (grouped (members_of (map (source_at_word (record { segments = segments.entry.now; views = views.now; runs = runs.now; borrows = borrows.now; ids = ids.now; pool = pool.now }) sources.now) (begins order.now n)))) }
+    ensures result_after { members_in groups.new sets.new pool.now result ≡ chosen_all (supplies_of (map (source_at_word (record { segments = segments.now; views = views.now; runs = runs.now; borrows = borrows.now; ids = ids.now; pool = pool.now }) sources.now) (begins order.now n))) (grouped (members_of (map (source_at_word (record { segments = segments.now; views = views.now; runs = runs.now; borrows = borrows.now; ids = ids.now; pool = pool.now }) sources.now) (begins order.now n)))) }
     ensures result_in_bounds { result * 6 ≤ length groups.new }
 {
     let mut supplies = [0u64; 32];
@@ -86,7 +86,7 @@ fn grouped_plain(
     requires views_in_bounds { lim.fill.views * 2 ≤ length owned.old }
     requires borrows_in_bounds { most_sources * (lim.fill.borrows + 1) * 6 ≤ length groups.old }
     requires views_in_bounds_2 { most_sources * (lim.fill.ids + lim.fill.views) * 2 ≤ length sets.old }
-    ensures { record { answer = result; out = record { segments = out_segments.new; views = out_views.new; runs = out_runs.new; borrows = out_borrows.new; ids = out_ids.new; pool = out_pool.new } } ≡ union_to lim [] (uuids_of fresh.now) (assembled (joined_tree (own_trees (map (source_at_word (record { segments = segments.entry.now; views = views.now; runs = runs.now; borrows = borrows.now; ids = ids.now; pool = pool.now }) sources.now) (begins order.now n)))) [] none seq (borrows_united (map (source_at_word (record { segments = segments.entry.now; views = views.now; runs = runs.now; borrows = borrows.now; ids = ids.now; pool = pool.now }) sources.now) (begins order.now n)) (uuids_of fresh.now))) (record { segments = out_segments.old; views = out_views.old; runs = out_runs.old; borrows = out_borrows.old; ids = out_ids.old; pool = out_pool.old }) }
+    ensures { record { answer = result; out = record { segments = out_segments.new; views = out_views.new; runs = out_runs.new; borrows = out_borrows.new; ids = out_ids.new; pool = out_pool.new } } ≡ union_to lim [] (uuids_of fresh.now) (assembled (joined_tree (own_trees (map (source_at_word (record { segments = segments.now; views = views.now; runs = runs.now; borrows = borrows.now; ids = ids.now; pool = pool.now }) sources.now) (begins order.now n)))) [] none seq (borrows_united (map (source_at_word (record { segments = segments.now; views = views.now; runs = runs.now; borrows = borrows.now; ids = ids.now; pool = pool.now }) sources.now) (begins order.now n)) (uuids_of fresh.now))) (record { segments = out_segments.old; views = out_views.old; runs = out_runs.old; borrows = out_borrows.old; ids = out_ids.old; pool = out_pool.old }) }
 {
     let count = group_used(
         lim, sources, order, n, segments, views, runs, borrows, ids, pool, owned, groups, sets,
@@ -144,7 +144,7 @@ pub fn union_plain(
     requires views_in_bounds { lim.fill.views * 2 ≤ length owned.old }
     requires borrows_in_bounds { most_sources * (lim.fill.borrows + 1) * 6 ≤ length groups.old }
     requires views_in_bounds_2 { most_sources * (lim.fill.ids + lim.fill.views) * 2 ≤ length sets.old }
-    ensures { record { answer = result; out = record { segments = out_segments.new; views = out_views.new; runs = out_runs.new; borrows = out_borrows.new; ids = out_ids.new; pool = out_pool.new } } ≡ union_by lim none (used_in (record { segments = segments.entry.now; views = views.now; runs = runs.now; borrows = borrows.now; ids = ids.now; pool = pool.now }) sources.now order.now n) seq (uuids_of fresh.now) (record { segments = out_segments.old; views = out_views.old; runs = out_runs.old; borrows = out_borrows.old; ids = out_ids.old; pool = out_pool.old }) }
+    ensures { record { answer = result; out = record { segments = out_segments.new; views = out_views.new; runs = out_runs.new; borrows = out_borrows.new; ids = out_ids.new; pool = out_pool.new } } ≡ union_by lim none (used_in (record { segments = segments.now; views = views.now; runs = runs.now; borrows = borrows.now; ids = ids.now; pool = pool.now }) sources.now order.now n) seq (uuids_of fresh.now) (record { segments = out_segments.old; views = out_views.old; runs = out_runs.old; borrows = out_borrows.old; ids = out_ids.old; pool = out_pool.old }) }
 {
     if ranges_overlap(order, n, pool) {
         return United::Refused(Refusal::Overlap(0));

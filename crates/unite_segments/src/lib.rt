@@ -256,7 +256,7 @@ pub fn given_named(
     requires n_in_bounds_2 { n * 7 ≤ length shares.old }
     requires np_in_bounds { np * 2 ≤ length prefixes.now }
     requires count_in_bounds { count * 6 ≤ length groups.now }
-    ensures { record { answer = result; out = record { segments = out_segments.new; views = out_views.new; runs = out_runs.new; borrows = out_borrows.new; ids = out_ids.new; pool = out_pool.new } } ≡ union_to lim [] (uuids_of fresh.now) (assembled new_tree (segments_at (tree_tables segments.entry.now views.now runs.now pool.now) sources.now (begins order.now n) (places_in prefixes.now pool.now np)) (named (bytes_in pool.now name)) seq (lent_from (uuids_of fresh.now) 0 (members_in groups.now sets.now pool.now count))) (record { segments = out_segments.old; views = out_views.old; runs = out_runs.old; borrows = out_borrows.old; ids = out_ids.old; pool = out_pool.old }) }
+    ensures { record { answer = result; out = record { segments = out_segments.new; views = out_views.new; runs = out_runs.new; borrows = out_borrows.new; ids = out_ids.new; pool = out_pool.new } } ≡ union_to lim [] (uuids_of fresh.now) (assembled new_tree (segments_at (tree_tables segments.now views.now runs.now pool.now) sources.now (begins order.now n) (places_in prefixes.now pool.now np)) (named (bytes_in pool.now name)) seq (lent_from (uuids_of fresh.now) 0 (members_in groups.now sets.now pool.now count))) (record { segments = out_segments.old; views = out_views.old; runs = out_runs.old; borrows = out_borrows.old; ids = out_ids.old; pool = out_pool.old }) }
 {
     let most = lim.fill;
     match measure_prefixed(

@@ -69,7 +69,7 @@ fn enter_share(
     k: usize,
 ) -> usize
     requires { (k + 1) * 7 ≤ length shares.old }
-    ensures result_after { ranged_trees (record { segments = segments.entry.now; views = views.now; runs = runs.now; borrows = []; ids = []; pool = pool.now }) (ranged_in pool.now shares.new result) ≡ arranged_from (ranged_trees (record { segments = segments.entry.now; views = views.now; runs = runs.now; borrows = []; ids = []; pool = pool.now }) (ranged_in pool.now shares.old k)) (ranged_as (tree_of (segments_in segments.entry.now runs.now views.now pool.now w) (bytes_in pool.now prefix)) (bounding_of (tree_views (tree_of (segments_in segments.entry.now runs.now views.now pool.now w) (bytes_in pool.now prefix))))) }
+    ensures result_after { ranged_trees (record { segments = segments.now; views = views.now; runs = runs.now; borrows = []; ids = []; pool = pool.now }) (ranged_in pool.now shares.new result) ≡ arranged_from (ranged_trees (record { segments = segments.now; views = views.now; runs = runs.now; borrows = []; ids = []; pool = pool.now }) (ranged_in pool.now shares.old k)) (ranged_as (tree_of (segments_in segments.now runs.now views.now pool.now w) (bytes_in pool.now prefix)) (bounding_of (tree_views (tree_of (segments_in segments.now runs.now views.now pool.now w) (bytes_in pool.now prefix))))) }
     ensures upper_bound { result ≤ k + 1 }
     ensures shares_len_unchanged { length shares.new ≡ length shares.old }
 {
@@ -97,7 +97,7 @@ pub fn shares_at(
 ) -> usize
     requires n_in_bounds { n * 7 ≤ length order.now }
     requires n_in_bounds_2 { n * 7 ≤ length shares.old }
-    ensures result_after { ranged_trees (record { segments = segments.entry.now; views = views.now; runs = runs.now; borrows = []; ids = []; pool = pool.now }) (ranged_in pool.now shares.new result) ≡ arranged (ranged_by tree_views (trees_at_in (record { segments = segments.entry.now; views = views.now; runs = runs.now; borrows = []; ids = []; pool = pool.now }) sources.now (bytes_in pool.now prefix) (beginsAt order.now n))) }
+    ensures result_after { ranged_trees (record { segments = segments.now; views = views.now; runs = runs.now; borrows = []; ids = []; pool = pool.now }) (ranged_in pool.now shares.new result) ≡ arranged (ranged_by tree_views (trees_at_in (record { segments = segments.now; views = views.now; runs = runs.now; borrows = []; ids = []; pool = pool.now }) sources.now (bytes_in pool.now prefix) (beginsAt order.now n))) }
     ensures upper_bound { result ≤ n }
     ensures shares_len_unchanged { length shares.new ≡ length shares.old }
 {
