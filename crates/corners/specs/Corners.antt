@@ -5,9 +5,9 @@ use Rattle.keys.specs.Pool.{edges_of}
 use Rattle.keys.specs.declared.Range.{Range}
 use Rattle.ids.specs.Id.{same_view_of, same_sst_of}
 use Rattle.ids.specs.declared.ViewMark.{ViewMark}
-use Rattle.ids.specs.declared.ViewMark.TheVariants as view_mark_lem
+use Rattle.ids.specs.declared.ViewMark.TheVariants as view_marks
 use Rattle.ids.specs.declared.SstMark.{SstMark}
-use Rattle.ids.specs.declared.SstMark.TheVariants as sst_mark_lem
+use Rattle.ids.specs.declared.SstMark.TheVariants as sst_marks
 use Rattle.records.specs.Model.{View, Tree}
 use Rattle.records.specs.Decode.{Lent, manifest_in}
 use Rattle.records.specs.Limits.{limits01}
@@ -67,4 +67,4 @@ pub record Corners : Type 0 where
   -- "(8) L0 v1 v2 v3, view watermark v3, SST watermark v2's: v1.": v1 being another view than v3, and of another SST than v2
   pub both_marks :
       (v1 v2 v3 : View) → same_view_of v3.id v1.id ≡ false → same_sst_of v2.sst v1.sst ≡ false
-      → Leaves (v1 ∷ v2 ∷ v3 ∷ []) (view_mark_lem.Some v3.id) (sst_mark_lem.Some v2.sst) (v1 ∷ [])
+      → Leaves (v1 ∷ v2 ∷ v3 ∷ []) (view_marks.Some v3.id) (sst_marks.Some v2.sst) (v1 ∷ [])

@@ -12,9 +12,9 @@ use borrow.Author.Tests.{le-leb}
 use Rattle.keys.specs.Pool.{part_of}
 use Rattle.ids.specs.declared.Uuid.{Uuid}
 use Rattle.ids.specs.declared.ViewMark.{ViewMark}
-use Rattle.ids.specs.declared.ViewMark.TheVariants as view_mark_lem
+use Rattle.ids.specs.declared.ViewMark.TheVariants as view_marks
 use Rattle.ids.specs.declared.SstMark.{SstMark}
-use Rattle.ids.specs.declared.SstMark.TheVariants as sst_mark_lem
+use Rattle.ids.specs.declared.SstMark.TheVariants as sst_marks
 use Rattle.tables.specs.Layout.{write}
 use Rattle.tables.proofs.Holds.{Holds, holds_at, holds_head, holds_word}
 use Rattle.records.specs.Model.{Manifest}
@@ -101,12 +101,12 @@ name_back Absent = refl
 name_back (Named p) = refl
 
 view_known : (x : ViewMark) → opened (view_mark_cell x).code true ≡ true
-view_known view_mark_lem.None = refl
-view_known (view_mark_lem.Some x) = refl
+view_known view_marks.None = refl
+view_known (view_marks.Some x) = refl
 
 sst_known : (x : SstMark) → opened (sst_mark_cell x).code true ≡ true
-sst_known sst_mark_lem.None = refl
-sst_known (sst_mark_lem.Some x) = refl
+sst_known sst_marks.None = refl
+sst_known (sst_marks.Some x) = refl
 
 name_known : (x : Name) → opened (name_cell x).code true ≡ true
 name_known Absent = refl

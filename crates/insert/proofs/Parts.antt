@@ -7,8 +7,8 @@ use native.Mathlib.Nat.{add-zero, add-suc, add_assoc}
 use lib.Dec.{leb}
 use lib.ListN.{length, length-append}
 use borrow.Author.Tests.{le-leb}
-use Rattle.ids.specs.declared.ViewMark.TheVariants as view_mark_lem
-use Rattle.ids.specs.declared.SstMark.TheVariants as sst_mark_lem
+use Rattle.ids.specs.declared.ViewMark.TheVariants as view_marks
+use Rattle.ids.specs.declared.SstMark.TheVariants as sst_marks
 use Rattle.tables.specs.Layout.{write, up_to, joined}
 use Rattle.tables.specs.Window.{held_of}
 use Rattle.tables.specs.declared.Window.{Window}
@@ -35,7 +35,7 @@ abbrev pub new_row : ℕ → SegmentRow
 new_row n =
     record {
       prefix = record { at = 0; len = n };
-      tree = record { view = view_mark_lem.None; sst = sst_mark_lem.None; l0 = record { first = 0; count = 0 }; compacted = record { first = 0; count = 0 } };
+      tree = record { view = view_marks.None; sst = sst_marks.None; l0 = record { first = 0; count = 0 }; compacted = record { first = 0; count = 0 } };
     }
 
 none_held : (first n : ℕ) → held_of (record { first = first; count = 0 }) n ≡ 0

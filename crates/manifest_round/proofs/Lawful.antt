@@ -8,7 +8,7 @@ use lib.ListN.{length}
 use Rattle.keys.specs.Range.{Edge, unbounded, included, excluded}
 use Rattle.records.specs.Model.{LastKey, unknown, known, Seen, all, only, View, Run, Tree, Segment, Borrow, Extractor, none, named, Manifest}
 use Rattle.records.specs.Fill.{plus, sum, fits, key_fill, last_keys, edge_keys, seen_keys, name_keys, view_fill, run_fill, tree_fill, segment_fill, borrow_fill, manifest_fill}
-use Rattle.records.specs.Fill.{segments as segment_rows_lem, views as view_rows_lem, runs as run_rows_lem, borrows as borrow_rows_lem, ids as id_rows_lem}
+use Rattle.records.specs.Fill.{segments as segment_cells, views as view_cells, runs as run_cells, borrows as borrow_cells, ids as id_cells}
 use Rattle.records.specs.Limits.{limits01}
 use Rattle.records.specs.declared.Fill.{Fill}
 use Rattle.records.proofs.Sums.{sum_append}
@@ -75,7 +75,7 @@ view_fits : (v : View) → ViewNumbers v → Small (view_fill v) → ViewFits v
 unfolding view_fill
 view_fits v n s =
     let k = sum key_fill (last_keys v.last ++ seen_keys v.visible) in
-    let t : Small (plus (key_fill v.first) k) = small_right (view_rows_lem 1) (plus (key_fill v.first) k) s in
+    let t : Small (plus (key_fill v.first) k) = small_right (view_cells 1) (plus (key_fill v.first) k) s in
     let r : Small (plus (sum key_fill (last_keys v.last)) (sum key_fill (seen_keys v.visible))) = rw (sum_append key_fill (last_keys v.last) (seen_keys v.visible)) at (small_right (key_fill v.first) k t) in
     record {
       id = n.id;
@@ -97,7 +97,7 @@ views_fit vs n s =
 
 run_fits : (r : Run) → RunNumbers r → Small (run_fill r) → RunFits r
 unfolding run_fill
-run_fits r n s = record { id = n.id; views = views_fit r.views n.views (small_right (run_rows_lem 1) (sum view_fill r.views) s) }
+run_fits r n s = record { id = n.id; views = views_fit r.views n.views (small_right (run_cells 1) (sum view_fill r.views) s) }
 
 run_counts : (r : Run) → 1 ≤ (run_fill r).runs
 unfolding run_fill
@@ -117,7 +117,7 @@ tree_fits t n s =
 segment_fits : (x : Segment) → SegmentNumbers x → Small (segment_fill x) → SegmentFits x
 unfolding segment_fill
 segment_fits x n s =
-    let r = small_right (segment_rows_lem 1) (plus (key_fill x.prefix) (tree_fill x.tree)) s in
+    let r = small_right (segment_cells 1) (plus (key_fill x.prefix) (tree_fill x.tree)) s in
     record { prefix = (small_left (key_fill x.prefix) (tree_fill x.tree) r).bytes; tree = tree_fits x.tree n (small_right (key_fill x.prefix) (tree_fill x.tree) r) }
 
 segment_counts : (x : Segment) → 1 ≤ (segment_fill x).segments
@@ -129,12 +129,12 @@ segment_counts x = omega arith
 borrow_fits : (b : Borrow) → BorrowNumbers b → Small (borrow_fill b) → BorrowFits b
 unfolding borrow_fill
 borrow_fits b n s =
-    let r = small_right (borrow_rows_lem 1) (plus (key_fill b.path) (id_rows_lem (length b.ids))) s in
+    let r = small_right (borrow_cells 1) (plus (key_fill b.path) (id_cells (length b.ids))) s in
     record {
-      path = (small_left (key_fill b.path) (id_rows_lem (length b.ids)) r).bytes;
+      path = (small_left (key_fill b.path) (id_cells (length b.ids)) r).bytes;
       source = n.source;
       final = n.final;
-      ids = record { short = (small_right (key_fill b.path) (id_rows_lem (length b.ids)) r).ids; each = n.ids };
+      ids = record { short = (small_right (key_fill b.path) (id_cells (length b.ids)) r).ids; each = n.ids };
     }
 
 borrow_counts : (b : Borrow) → 1 ≤ (borrow_fill b).borrows

@@ -10,9 +10,9 @@ use Rattle.keys.specs.Range.{Edge, unbounded, included, excluded}
 use Rattle.ids.specs.Id.{id_bytes}
 use Rattle.ids.specs.declared.SstId.{SstId}
 use Rattle.ids.specs.declared.ViewMark.{ViewMark}
-use Rattle.ids.specs.declared.ViewMark.TheVariants as view_mark_lem
+use Rattle.ids.specs.declared.ViewMark.TheVariants as view_marks
 use Rattle.ids.specs.declared.SstMark.{SstMark}
-use Rattle.ids.specs.declared.SstMark.TheVariants as sst_mark_lem
+use Rattle.ids.specs.declared.SstMark.TheVariants as sst_marks
 use Rattle.ids.specs.declared.Final.{Final}
 use Rattle.ids.specs.declared.Final.TheVariants as final
 use Rattle.records.specs.Model.{LastKey, unknown, known, Seen, all, only, View, Run, Tree, Segment, Borrow, Extractor, none, named, Manifest}
@@ -49,13 +49,13 @@ some_id : (s : List ℕ) (at : ℕ) (post : List ℕ) (hi lo : ℕ) → drop at 
 some_id s at post hi lo e = omega (arith, id_length hi lo)
 
 view_mark_back : (m : ViewMark) → ViewMarkFits m → Back view_mark_at view_mark_bytes m
-view_mark_back view_mark_lem.None h s at post e = rw (nil_back s at post e)
-view_mark_back (view_mark_lem.Some x) h s at post e =
+view_mark_back view_marks.None h s at post e = rw (nil_back s at post e)
+view_mark_back (view_marks.Some x) h s at post e =
     rw (bin_present s at post (id_bytes x.0 x.1) (some_id s at post x.0 x.1 e) e, id_back s at post x.0 x.1 h.0 h.1 e)
 
 sst_mark_back : (m : SstMark) → SstMarkFits m → Back sst_mark_at sst_mark_bytes m
-sst_mark_back sst_mark_lem.None h s at post e = rw (nil_back s at post e)
-sst_mark_back (sst_mark_lem.Some x) h s at post e =
+sst_mark_back sst_marks.None h s at post e = rw (nil_back s at post e)
+sst_mark_back (sst_marks.Some x) h s at post e =
     rw (bin_present s at post (id_bytes x.0 x.1) (some_id s at post x.0 x.1 e) e, id_back s at post x.0 x.1 h.0 h.1 e)
 
 final_back : (f : Final) → FinalFits f → Back final_at final_bytes f

@@ -7,9 +7,9 @@ use lib.ListN.{length-map}
 use native.Mathlib.Omega.{arith}
 use Rattle.keys.specs.Range.{Edge, unbounded, included, excluded}
 use Rattle.ids.specs.declared.ViewMark.{ViewMark}
-use Rattle.ids.specs.declared.ViewMark.TheVariants as view_mark_lem
+use Rattle.ids.specs.declared.ViewMark.TheVariants as view_marks
 use Rattle.ids.specs.declared.SstMark.{SstMark}
-use Rattle.ids.specs.declared.SstMark.TheVariants as sst_mark_lem
+use Rattle.ids.specs.declared.SstMark.TheVariants as sst_marks
 use Rattle.ids.specs.declared.Final.{Final}
 use Rattle.ids.specs.declared.Final.TheVariants as final
 use Rattle.records.specs.Model.{LastKey, unknown, known, Seen, all, only, View, Run, Tree, Segment, Borrow, Extractor, none, named, Manifest}
@@ -21,12 +21,12 @@ use Rattle.manifest_write.specs.Bytes.{list_bytes, view_mark_bytes, sst_mark_byt
 use Rattle.manifest_round.specs.Fits.{EdgeFits, SeenFits, LastFits, NameFits, AllFit, ListFits, ViewFits, RunFits, TreeFits, SegmentFits, IdFits, BorrowFits, ManifestFits}
 
 well_view_mark : (r : ℕ) (m : ViewMark) → Well r (view_mark_bytes m)
-well_view_mark r view_mark_lem.None = well_nil r
-well_view_mark r (view_mark_lem.Some x) = well_id r x.0 x.1
+well_view_mark r view_marks.None = well_nil r
+well_view_mark r (view_marks.Some x) = well_id r x.0 x.1
 
 well_sst_mark : (r : ℕ) (m : SstMark) → Well r (sst_mark_bytes m)
-well_sst_mark r sst_mark_lem.None = well_nil r
-well_sst_mark r (sst_mark_lem.Some x) = well_id r x.0 x.1
+well_sst_mark r sst_marks.None = well_nil r
+well_sst_mark r (sst_marks.Some x) = well_id r x.0 x.1
 
 well_final : (r : ℕ) (f : Final) → Well r (final_bytes f)
 well_final r final.None = well_nil r

@@ -4,9 +4,9 @@ use Rattle.std.specs.Int.{w64}
 use Rattle.std.proofs.Common.{SFits}
 use Rattle.keys.specs.Range.{Edge, unbounded, included, excluded}
 use Rattle.ids.specs.declared.ViewMark.{ViewMark}
-use Rattle.ids.specs.declared.ViewMark.TheVariants as view_mark_lem
+use Rattle.ids.specs.declared.ViewMark.TheVariants as view_marks
 use Rattle.ids.specs.declared.SstMark.{SstMark}
-use Rattle.ids.specs.declared.SstMark.TheVariants as sst_mark_lem
+use Rattle.ids.specs.declared.SstMark.TheVariants as sst_marks
 use Rattle.ids.specs.declared.SstId.{SstId}
 use Rattle.ids.specs.declared.Final.{Final}
 use Rattle.ids.specs.declared.Final.TheVariants as final
@@ -21,12 +21,12 @@ abbrev pub Halves : ℕ → ℕ → Type 0
 Halves hi lo = Word hi × Word lo
 
 abbrev pub ViewMarkFits : ViewMark → Type 0
-ViewMarkFits view_mark_lem.None = Unit {0}
-ViewMarkFits (view_mark_lem.Some x) = Halves x.0 x.1
+ViewMarkFits view_marks.None = Unit {0}
+ViewMarkFits (view_marks.Some x) = Halves x.0 x.1
 
 abbrev pub SstMarkFits : SstMark → Type 0
-SstMarkFits sst_mark_lem.None = Unit {0}
-SstMarkFits (sst_mark_lem.Some x) = Halves x.0 x.1
+SstMarkFits sst_marks.None = Unit {0}
+SstMarkFits (sst_marks.Some x) = Halves x.0 x.1
 
 abbrev pub FinalFits : Final → Type 0
 FinalFits final.None = Unit {0}

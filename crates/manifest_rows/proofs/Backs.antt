@@ -30,9 +30,9 @@ use Rattle.records.specs.declared.Name.{Name}
 use Rattle.records.specs.declared.Name.TheVariants.{Absent, Named}
 use Rattle.ids.specs.declared.SstId.{SstId}
 use Rattle.ids.specs.declared.ViewMark.{ViewMark}
-use Rattle.ids.specs.declared.ViewMark.TheVariants as view_mark_lem
+use Rattle.ids.specs.declared.ViewMark.TheVariants as view_marks
 use Rattle.ids.specs.declared.SstMark.{SstMark}
-use Rattle.ids.specs.declared.SstMark.TheVariants as sst_mark_lem
+use Rattle.ids.specs.declared.SstMark.TheVariants as sst_marks
 use Rattle.ids.specs.declared.Final.{Final}
 use Rattle.ids.specs.declared.Final.TheVariants as final
 use Rattle.records.proofs.Rows.{view_at_back, run_at_back, segment_at_back, borrow_at_back, id_at_back}
@@ -185,12 +185,12 @@ final_opens final.None = refl
 final_opens (final.Some x) = refl
 
 view_mark_opens : (m : ViewMark) → opened (view_mark_cell m).code true ≡ true
-view_mark_opens view_mark_lem.None = refl
-view_mark_opens (view_mark_lem.Some x) = refl
+view_mark_opens view_marks.None = refl
+view_mark_opens (view_marks.Some x) = refl
 
 sst_mark_opens : (m : SstMark) → opened (sst_mark_cell m).code true ≡ true
-sst_mark_opens sst_mark_lem.None = refl
-sst_mark_opens (sst_mark_lem.Some x) = refl
+sst_mark_opens sst_marks.None = refl
+sst_mark_opens (sst_marks.Some x) = refl
 
 module _ (s borrows ids : List ℕ) where
   borrow_back : (b : Borrow) (σ σ' : Two) → BorrowStep s b σ σ' → KeepTwo 9 2 borrows ids σ'

@@ -4,9 +4,9 @@ use Rattle.std.specs.Prelude.{ℕ, zero, suc, ◌-◌, ◌^◌, List, [], ◌∷
 use Rattle.keys.specs.Range.{Edge, unbounded, included, excluded}
 use Rattle.ids.specs.declared.SstId.{SstId}
 use Rattle.ids.specs.declared.ViewMark.{ViewMark}
-use Rattle.ids.specs.declared.ViewMark.TheVariants as view_mark_lem
+use Rattle.ids.specs.declared.ViewMark.TheVariants as view_marks
 use Rattle.ids.specs.declared.SstMark.{SstMark}
-use Rattle.ids.specs.declared.SstMark.TheVariants as sst_mark_lem
+use Rattle.ids.specs.declared.SstMark.TheVariants as sst_marks
 use Rattle.ids.specs.declared.Final.{Final}
 use Rattle.ids.specs.declared.Final.TheVariants as final
 use Rattle.records.specs.Model.{LastKey, unknown, known, Seen, all, only, View, Run, Tree, Segment, Borrow, Extractor, none, named, Manifest}
@@ -49,10 +49,10 @@ abbrev pub sst_id_at : List ℕ → ℕ → Got SstId
 sst_id_at s at = on_id wrong (id_at s at) λ hi lo p. is (hi, lo) p
 
 abbrev pub view_mark_at : List ℕ → ℕ → Got ViewMark
-view_mark_at s at = option_of view_mark_lem.None (λ p. on_id wrong (id_at s p) λ hi lo q. is (view_mark_lem.Some (hi, lo)) q) s at
+view_mark_at s at = option_of view_marks.None (λ p. on_id wrong (id_at s p) λ hi lo q. is (view_marks.Some (hi, lo)) q) s at
 
 abbrev pub sst_mark_at : List ℕ → ℕ → Got SstMark
-sst_mark_at s at = option_of sst_mark_lem.None (λ p. on_id wrong (id_at s p) λ hi lo q. is (sst_mark_lem.Some (hi, lo)) q) s at
+sst_mark_at s at = option_of sst_marks.None (λ p. on_id wrong (id_at s p) λ hi lo q. is (sst_marks.Some (hi, lo)) q) s at
 
 abbrev pub final_at : List ℕ → ℕ → Got Final
 final_at s at = option_of final.None (λ p. on_id wrong (id_at s p) λ hi lo q. is (final.Some (hi, lo)) q) s at

@@ -16,7 +16,7 @@ use Rattle.ids.specs.declared.Final.{Final}
 use Rattle.ids.specs.declared.ViewMark.{ViewMark}
 use Rattle.ids.specs.declared.SstMark.{SstMark}
 use Rattle.manifest_values.specs.declared.GotViewMark.{GotViewMark}
-use Rattle.manifest_values.specs.declared.GotViewMark.TheVariants as view_mark_lem
+use Rattle.manifest_values.specs.declared.GotViewMark.TheVariants as view_marks
 use Rattle.manifest_values.specs.declared.GotName.{GotName}
 use Rattle.manifest_values.specs.declared.GotName.TheVariants as name
 use Rattle.manifest_values.specs.declared.GotNumbers.{GotNumbers}
@@ -26,7 +26,7 @@ use Rattle.manifest_values.specs.declared.GotEpochs.TheVariants as epochs
 use Rattle.manifest_values.specs.declared.Numbers.{Numbers}
 use Rattle.manifest_values.specs.declared.Epochs.{Epochs}
 use Rattle.manifest_values.specs.declared.GotSstMark.{GotSstMark}
-use Rattle.manifest_values.specs.declared.GotSstMark.TheVariants as sst_mark_lem
+use Rattle.manifest_values.specs.declared.GotSstMark.TheVariants as sst_marks
 use Rattle.manifest_values.specs.declared.GotFinal.{GotFinal}
 use Rattle.manifest_values.specs.declared.GotFinal.TheVariants as final
 use Rattle.manifest_values.specs.declared.GotPlace.{GotPlace}
@@ -98,12 +98,12 @@ got_final (final.Is x p) = is x p
 got_final (final.Wrong q) = wrong q
 
 abbrev pub got_view_mark : GotViewMark → Got ViewMark
-got_view_mark (view_mark_lem.Is x p) = is x p
-got_view_mark (view_mark_lem.Wrong q) = wrong q
+got_view_mark (view_marks.Is x p) = is x p
+got_view_mark (view_marks.Wrong q) = wrong q
 
 abbrev pub got_sst_mark : GotSstMark → Got SstMark
-got_sst_mark (sst_mark_lem.Is x p) = is x p
-got_sst_mark (sst_mark_lem.Wrong q) = wrong q
+got_sst_mark (sst_marks.Is x p) = is x p
+got_sst_mark (sst_marks.Wrong q) = wrong q
 
 abbrev pub got_name : GotName → Got Name
 got_name (name.Is x p) = is x p

@@ -10,9 +10,9 @@ use Rattle.keys.proofs.Says.{says_true}
 use Rattle.keys.specs.Range.{Edge, unbounded, included, excluded}
 use Rattle.ids.specs.declared.SstId.{SstId}
 use Rattle.ids.specs.declared.ViewMark.{ViewMark}
-use Rattle.ids.specs.declared.ViewMark.TheVariants as view_mark_lem
+use Rattle.ids.specs.declared.ViewMark.TheVariants as view_marks
 use Rattle.ids.specs.declared.SstMark.{SstMark}
-use Rattle.ids.specs.declared.SstMark.TheVariants as sst_mark_lem
+use Rattle.ids.specs.declared.SstMark.TheVariants as sst_marks
 use Rattle.ids.specs.declared.Final.{Final}
 use Rattle.ids.specs.declared.Final.TheVariants as final
 use Rattle.records.specs.Model.{LastKey, unknown, known, Seen, all, only, View, Run, Tree, Segment, Borrow, Extractor, none, named, Manifest}
@@ -106,12 +106,12 @@ run_most r =
     omega (arith, record_total (uint_bytes r.id ∷ list_bytes view_bytes r.views ∷ []) (omega arith), uint_most r.id, list_most view_bytes view_fill view_most r.views)
 
 view_mark_most : (x : ViewMark) → length (view_mark_bytes x) ≤ 18
-view_mark_most view_mark_lem.None = omega arith
-view_mark_most (view_mark_lem.Some x) = omega (arith, id_size x.0 x.1)
+view_mark_most view_marks.None = omega arith
+view_mark_most (view_marks.Some x) = omega (arith, id_size x.0 x.1)
 
 sst_mark_most : (x : SstMark) → length (sst_mark_bytes x) ≤ 18
-sst_mark_most sst_mark_lem.None = omega arith
-sst_mark_most (sst_mark_lem.Some x) = omega (arith, id_size x.0 x.1)
+sst_mark_most sst_marks.None = omega arith
+sst_mark_most (sst_marks.Some x) = omega (arith, id_size x.0 x.1)
 
 final_most : (x : Final) → length (final_bytes x) ≤ 18
 final_most final.None = omega arith

@@ -4,9 +4,9 @@ use Rattle.std.specs.Prelude.{ℕ, List, [], ◌∷◌, map}
 use Rattle.keys.specs.Range.{Edge, unbounded, included, excluded}
 use Rattle.ids.specs.declared.SstId.{SstId}
 use Rattle.ids.specs.declared.ViewMark.{ViewMark}
-use Rattle.ids.specs.declared.ViewMark.TheVariants as view_mark_lem
+use Rattle.ids.specs.declared.ViewMark.TheVariants as view_marks
 use Rattle.ids.specs.declared.SstMark.{SstMark}
-use Rattle.ids.specs.declared.SstMark.TheVariants as sst_mark_lem
+use Rattle.ids.specs.declared.SstMark.TheVariants as sst_marks
 use Rattle.ids.specs.declared.Final.{Final}
 use Rattle.ids.specs.declared.Final.TheVariants as final
 use Rattle.records.specs.Model.{LastKey, unknown, known, Seen, all, only, View, Run, Tree, Segment, Borrow, Extractor, none, named, Manifest}
@@ -17,12 +17,12 @@ abbrev pub list_bytes : {A : Type 0} → (A → List ℕ) → List A → List �
 list_bytes one xs = group_bytes (map one xs)
 
 abbrev pub view_mark_bytes : ViewMark → List ℕ
-view_mark_bytes view_mark_lem.None = nil_bytes
-view_mark_bytes (view_mark_lem.Some x) = id_part x.0 x.1
+view_mark_bytes view_marks.None = nil_bytes
+view_mark_bytes (view_marks.Some x) = id_part x.0 x.1
 
 abbrev pub sst_mark_bytes : SstMark → List ℕ
-sst_mark_bytes sst_mark_lem.None = nil_bytes
-sst_mark_bytes (sst_mark_lem.Some x) = id_part x.0 x.1
+sst_mark_bytes sst_marks.None = nil_bytes
+sst_mark_bytes (sst_marks.Some x) = id_part x.0 x.1
 
 abbrev pub final_bytes : Final → List ℕ
 final_bytes final.None = nil_bytes

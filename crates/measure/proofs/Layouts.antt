@@ -19,7 +19,7 @@ use Rattle.tables.proofs.Windows.{held_all}
 use Rattle.records.specs.Model.{LastKey, unknown, known, Seen, all, only, View, Run, Tree, Segment, Borrow, Extractor, none, named, Manifest}
 use Rattle.records.specs.Row.{run_at, segment_at}
 use Rattle.records.specs.Words.{bound_cell, last_cell, visible_cells, view_words, tree_words, segment_words, borrow_words}
-use Rattle.records.specs.Fill.{segments as segment_rows_lem, empty, plus, sum, last_keys, edge_keys, seen_keys, name_keys, key_fill, view_fill, run_fill, tree_fill, segment_fill, borrow_fill, manifest_fill}
+use Rattle.records.specs.Fill.{segments as segment_cells, empty, plus, sum, last_keys, edge_keys, seen_keys, name_keys, key_fill, view_fill, run_fill, tree_fill, segment_fill, borrow_fill, manifest_fill}
 use Rattle.records.specs.Layout.{run, last_row, bound_row, visible_row, view_row, run_row, tree_row, segment_row, borrow_row, name_row, view_bytes, views_laid, run_bytes, runs_laid, runs_views_laid, tree_bytes, tree_views_laid, tree_runs_laid, segment_bytes, segments_laid, segments_views_laid, segments_runs_laid, borrows_laid, borrow_ids, borrow_path, past_l0, past_prefix, past_tree, past_segments, past_name, manifest_row, layout}
 use Rattle.records.specs.Decode.{Lent, run_in, runs_in, tree_in, segment_in, segments_in, manifest_in}
 use Rattle.records.specs.declared.Fill.{Fill}
@@ -180,7 +180,7 @@ module _ (rt vt pt : List ℕ) where
       → segment_placed (length pt) vt rt st c.segments ≡ true
   unfolding segment_row segment_bytes segment_fill tree_row
   segment_in_lem st c s a h r v p =
-      let one = segment_rows_lem 1 in
+      let one = segment_cells 1 in
       let k = key_fill s.prefix in
       let f = tree_fill s.tree in
       let g = plus k f in

@@ -8,9 +8,9 @@ use native.Mathlib.Nat.{add-zero, add-suc, suc-add, le-div_iff_mul-le}
 use borrow.Author.Tests.{le-leb}
 use lib.ListN.{length}
 use Rattle.ids.specs.declared.ViewMark.{ViewMark}
-use Rattle.ids.specs.declared.ViewMark.TheVariants as view_mark_lem
+use Rattle.ids.specs.declared.ViewMark.TheVariants as view_marks
 use Rattle.ids.specs.declared.SstMark.{SstMark}
-use Rattle.ids.specs.declared.SstMark.TheVariants as sst_mark_lem
+use Rattle.ids.specs.declared.SstMark.TheVariants as sst_marks
 use Rattle.ids.specs.declared.Final.{Final}
 use Rattle.ids.specs.declared.Final.TheVariants as final
 use Rattle.tables.specs.Window.{lies_in}
@@ -91,12 +91,12 @@ window_in first n w long p h = le-leb (first + n) (long / w) ((le-div_iff_mul-le
 
 -- a cell's code is 0 or 1
 pub view_mark_opens : (m : ViewMark) → opened (view_mark_cell m).code true ≡ true
-view_mark_opens view_mark_lem.None = refl
-view_mark_opens (view_mark_lem.Some x) = refl
+view_mark_opens view_marks.None = refl
+view_mark_opens (view_marks.Some x) = refl
 
 pub sst_mark_opens : (m : SstMark) → opened (sst_mark_cell m).code true ≡ true
-sst_mark_opens sst_mark_lem.None = refl
-sst_mark_opens (sst_mark_lem.Some x) = refl
+sst_mark_opens sst_marks.None = refl
+sst_mark_opens (sst_marks.Some x) = refl
 
 pub final_opens : (f : Final) → opened (final_cell f).code true ≡ true
 final_opens final.None = refl

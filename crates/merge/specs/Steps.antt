@@ -4,8 +4,8 @@ use Rattle.keys.specs.Pick.{pick}
 use Rattle.keys.specs.Key.{order_of}
 use Rattle.keys.specs.declared.Order.{Order}
 use Rattle.keys.specs.declared.Order.TheVariants.{Less, Equal, Greater}
-use Rattle.ids.specs.declared.ViewMark.TheVariants as view_mark_lem
-use Rattle.ids.specs.declared.SstMark.TheVariants as sst_mark_lem
+use Rattle.ids.specs.declared.ViewMark.TheVariants as view_marks
+use Rattle.ids.specs.declared.SstMark.TheVariants as sst_marks
 use Rattle.tables.specs.Layout.{up_to}
 use Rattle.tables.specs.Window.{held_of}
 use Rattle.tables.specs.declared.Window.{Window}
@@ -75,8 +75,8 @@ compactor_taken (Both w c) = 1
 abbrev pub new_row : TreeRow
 new_row =
     record {
-      view = view_mark_lem.None;
-      sst = sst_mark_lem.None;
+      view = view_marks.None;
+      sst = sst_marks.None;
       l0 = record { first = 0; count = 0 };
       compacted = record { first = 0; count = 0 };
     }

@@ -16,7 +16,7 @@ use Rattle.records.specs.Model.{View, Run, Tree, Segment}
 use Rattle.records.specs.Row.{view_at, run_at}
 use Rattle.records.specs.Decode.{bytes_in, view_in, views_in, run_in, runs_in, tree_in, segment_in}
 use Rattle.records.specs.Words.{id_words}
-use Rattle.records.specs.Fill.{empty, plus, ids as id_rows_lem}
+use Rattle.records.specs.Fill.{empty, plus, ids as id_cells}
 use Rattle.records.specs.Layout.{ids_laid}
 use Rattle.records.specs.declared.Fill.{Fill}
 use Rattle.records.specs.declared.ViewRow.{ViewRow}
@@ -111,7 +111,7 @@ left_used rows runs views pool w c n e =
 
 -- ---- laid from c on
 
-pub one_listed : (c q : Fill) (d d' : List ℕ) (v w : ViewRow) → v ≡ w → q ≡ plus c (id_rows_lem 1) → d' ≡ write d (c.ids * 2) (id_words v.sst) → LaidIds c q d d' (w.sst ∷ [])
+pub one_listed : (c q : Fill) (d d' : List ℕ) (v w : ViewRow) → v ≡ w → q ≡ plus c (id_cells 1) → d' ≡ write d (c.ids * 2) (id_words v.sst) → LaidIds c q d d' (w.sst ∷ [])
 unfolding ids_laid
 one_listed c q d d' v w e p h = (p, h ∙ rw e (ap (write d (c.ids * 2)) (sym (append-nil (id_words w.sst)))))
 
@@ -120,15 +120,15 @@ module _ (c : Fill) (xs ys : List SstId) where
   pub ids_first : (n : ℕ) → (c.ids + length (xs ++ ys)) * 2 ≤ n → (c.ids + length xs) * 2 ≤ n
   ids_first n h = omega (arith, length-append xs ys)
 
-  module _ (to : Fill) (p : to ≡ plus c (id_rows_lem (length xs))) where
+  module _ (to : Fill) (p : to ≡ plus c (id_cells (length xs))) where
     pub ids_rest : (n : ℕ) → (c.ids + length (xs ++ ys)) * 2 ≤ n → (to.ids + length ys) * 2 ≤ n
     ids_rest n h = rw p (omega (arith, length-append xs ys))
 
     pub ids_then : (q : Fill) (d d₁ d₂ : List ℕ) → (c.ids + length (xs ++ ys)) * 2 ≤ length d → d₁ ≡ write d (c.ids * 2) (ids_laid xs) → LaidIds to q d₁ d₂ ys → LaidIds c q d d₂ (xs ++ ys)
     unfolding ids_laid
     ids_then q d d₁ d₂ h w v = (
-      v.0 ∙ rw p (plus_assoc c (id_rows_lem (length xs)) (id_rows_lem (length ys)) ∙ ap (λ (n : ℕ). plus c (id_rows_lem n)) (sym (length-append xs ys))),
-      put_then ids c (id_rows_lem (length xs)) to (id_rows_lem (length (xs ++ ys))) d d₁ d₂ (joined id_words xs) (joined id_words ys) h p (ids_laid_long xs) w v.1 ∙ ap (write d (c.ids * 2)) (sym (joined_append id_words xs ys)),
+      v.0 ∙ rw p (plus_assoc c (id_cells (length xs)) (id_cells (length ys)) ∙ ap (λ (n : ℕ). plus c (id_cells n)) (sym (length-append xs ys))),
+      put_then ids c (id_cells (length xs)) to (id_cells (length (xs ++ ys))) d d₁ d₂ (joined id_words xs) (joined id_words ys) h p (ids_laid_long xs) w v.1 ∙ ap (write d (c.ids * 2)) (sym (joined_append id_words xs ys)),
     )
 
 -- what becomes of a tree
@@ -180,13 +180,13 @@ module _ (vs us : List View) where
   pub both_first : (n : ℕ) → length (ids_used (vs ++ us)) * 2 ≤ n → (0 + length (ids_used vs)) * 2 ≤ n
   both_first n h = omega (arith, both_long)
 
-  pub both_rest : (to : Fill) → to ≡ plus empty (id_rows_lem (length (ids_used vs))) → (n : ℕ) → length (ids_used (vs ++ us)) * 2 ≤ n → (to.ids + length (ids_used us)) * 2 ≤ n
+  pub both_rest : (to : Fill) → to ≡ plus empty (id_cells (length (ids_used vs))) → (n : ℕ) → length (ids_used (vs ++ us)) * 2 ≤ n → (to.ids + length (ids_used us)) * 2 ≤ n
   both_rest to p n h = rw p (omega (arith, both_long))
 
   pub both_listed : (to q : Fill) (d d₁ d₂ : List ℕ) → length (ids_used (vs ++ us)) * 2 ≤ length d → LaidIds empty to d d₁ (ids_used vs) → LaidIds to q d₁ d₂ (ids_used us)
-      → (q ≡ id_rows_lem (length (ids_used (vs ++ us)))) × (d₂ ≡ over d (ids_laid (ids_used (vs ++ us))))
+      → (q ≡ id_cells (length (ids_used (vs ++ us)))) × (d₂ ≡ over d (ids_laid (ids_used (vs ++ us))))
   both_listed to q d d₁ d₂ h w v =
       let r : (0 + length (ids_used vs ++ ids_used us)) * 2 ≤ length d = omega (arith, both_long, length-append (ids_used vs) (ids_used us)) in
       let z = ids_then empty (ids_used vs) (ids_used us) to w.0 q d d₁ d₂ r w.1 v in
       let f : 0 * 2 ≡ 0 = omega arith in
-      rw (used_append vs us) (z.0 ∙ empty_plus (id_rows_lem (length (ids_used vs ++ ids_used us))), z.1 ∙ ap (λ (n : ℕ). write d n (ids_laid (ids_used vs ++ ids_used us))) f ∙ write_front d (ids_laid (ids_used vs ++ ids_used us)))
+      rw (used_append vs us) (z.0 ∙ empty_plus (id_cells (length (ids_used vs ++ ids_used us))), z.1 ∙ ap (λ (n : ℕ). write d n (ids_laid (ids_used vs ++ ids_used us))) f ∙ write_front d (ids_laid (ids_used vs ++ ids_used us)))

@@ -16,7 +16,7 @@ use Rattle.records.specs.Model.{View, Run, Tree}
 use Rattle.records.specs.Row.{run_at}
 use Rattle.records.specs.Decode.{view_in, views_in, run_in, runs_in}
 use Rattle.records.specs.Words.{id_words}
-use Rattle.records.specs.Fill.{plus, sum, tree_fill, ids as id_rows_lem}
+use Rattle.records.specs.Fill.{plus, sum, tree_fill, ids as id_cells}
 use Rattle.records.specs.Layout.{ids_laid}
 use Rattle.records.specs.declared.Fill.{Fill}
 use Rattle.records.specs.declared.ViewRow.{ViewRow}
@@ -62,7 +62,7 @@ left_used pool (Left v seen) = refl
 
 -- some ids laid from c on
 abbrev pub LaidIds : Fill → Fill → List ℕ → List ℕ → List SstId → Type 0
-LaidIds c q d d' xs = (q ≡ plus c (id_rows_lem (length xs))) × (d' ≡ write d (c.ids * 2) (ids_laid xs))
+LaidIds c q d d' xs = (q ≡ plus c (id_cells (length xs))) × (d' ≡ write d (c.ids * 2) (ids_laid xs))
 
 module _ (k : Kept) (c : Fill) (d : List ℕ) where
   pub id_none : k ≡ Gone → LaidIds c c d d (ids_left k)
@@ -73,7 +73,7 @@ module _ (k : Kept) (c : Fill) (d : List ℕ) where
     pub id_room_lem : (n : ℕ) → (c.ids + length (ids_left k)) * 2 ≤ n → (c.ids + 1) * 2 ≤ n
     id_room_lem n h = rw t at h
 
-    pub id_one : (q : Fill) (d' : List ℕ) → q ≡ plus c (id_rows_lem 1) → d' ≡ write d (c.ids * 2) (id_words v.sst) → LaidIds c q d d' (ids_left k)
+    pub id_one : (q : Fill) (d' : List ℕ) → q ≡ plus c (id_cells 1) → d' ≡ write d (c.ids * 2) (id_words v.sst) → LaidIds c q d d' (ids_left k)
     unfolding ids_laid
     id_one q d' p w = rw t (p, w ∙ ap (write d (c.ids * 2)) (sym (append-nil (id_words v.sst))))
 
@@ -93,7 +93,7 @@ pub record Listed (f : ℕ → List SstId) (n : ℕ) (c₀ c : Fill) (d₀ d : L
   pub walk : Walk (sum id_fill) f n c₀ c k
   pub grown : Grown id_pieces f n c₀ d₀ d k
 
-all_fill : (f : ℕ → List SstId) (n : ℕ) (xs : List SstId) → xs ≡ all (up_to f n) → sum (sum id_fill) (up_to f n) ≡ id_rows_lem (length xs)
+all_fill : (f : ℕ → List SstId) (n : ℕ) (xs : List SstId) → xs ≡ all (up_to f n) → sum (sum id_fill) (up_to f n) ≡ id_cells (length xs)
 all_fill f n xs e = sum_many id_fill (up_to f n) ∙ ap (sum id_fill) (sym e) ∙ ids_fill xs
 
 module _ {f : ℕ → List SstId} {n : ℕ} {c₀ : Fill} {d₀ : List ℕ} where
@@ -163,15 +163,15 @@ module _ (c : Fill) (vs us : List View) where
   pub both_first : (n : ℕ) → (c.ids + length both) * 2 ≤ n → (c.ids + length (ids_used vs)) * 2 ≤ n
   both_first n h = omega (arith, both_long)
 
-  module _ (to : Fill) (p : to ≡ plus c (id_rows_lem (length (ids_used vs)))) where
+  module _ (to : Fill) (p : to ≡ plus c (id_cells (length (ids_used vs)))) where
     pub both_rest : (n : ℕ) → (c.ids + length both) * 2 ≤ n → (to.ids + length (ids_used us)) * 2 ≤ n
     both_rest n h = rw p (omega (arith, both_long))
 
-    pub both_laid : (q : Fill) (d d₁ d₂ : List ℕ) → (c.ids + length both) * 2 ≤ length d → d₁ ≡ write d (c.ids * 2) (ids_laid (ids_used vs)) → q ≡ plus to (id_rows_lem (length (ids_used us))) → d₂ ≡ write d₁ (to.ids * 2) (ids_laid (ids_used us))
+    pub both_laid : (q : Fill) (d d₁ d₂ : List ℕ) → (c.ids + length both) * 2 ≤ length d → d₁ ≡ write d (c.ids * 2) (ids_laid (ids_used vs)) → q ≡ plus to (id_cells (length (ids_used us))) → d₂ ≡ write d₁ (to.ids * 2) (ids_laid (ids_used us))
         → LaidIds c q d d₂ both
     unfolding ids_laid
     both_laid q d d₁ d₂ h w e v = (
-      e ∙ rw p (plus_assoc c (id_rows_lem (length (ids_used vs))) (id_rows_lem (length (ids_used us))) ∙ ap (λ (n : ℕ). plus c (id_rows_lem n)) (sym both_long)),
-      put_then ids c (id_rows_lem (length (ids_used vs))) to (id_rows_lem (length both)) d d₁ d₂ (joined id_words (ids_used vs)) (joined id_words (ids_used us)) h p (ids_laid_long (ids_used vs)) w v
+      e ∙ rw p (plus_assoc c (id_cells (length (ids_used vs))) (id_cells (length (ids_used us))) ∙ ap (λ (n : ℕ). plus c (id_cells n)) (sym both_long)),
+      put_then ids c (id_cells (length (ids_used vs))) to (id_cells (length both)) d d₁ d₂ (joined id_words (ids_used vs)) (joined id_words (ids_used us)) h p (ids_laid_long (ids_used vs)) w v
           ∙ ap (write d (c.ids * 2)) (sym (joined_append id_words (ids_used vs) (ids_used us)) ∙ ap (joined id_words) (sym (used_append vs us))),
     )

@@ -15,7 +15,7 @@ use Rattle.records.specs.Model.{Borrow}
 use Rattle.records.specs.Row.{borrow_at}
 use Rattle.records.specs.Decode.{borrow_in, borrows_in}
 use Rattle.records.specs.Words.{borrow_words}
-use Rattle.records.specs.Fill.{plus, sum, fits, ids as id_rows_lem, borrow_fill}
+use Rattle.records.specs.Fill.{plus, sum, fits, ids as id_cells, borrow_fill}
 use Rattle.records.specs.Layout.{borrow_row, borrows_laid, borrow_ids, borrow_path, ids_laid}
 use Rattle.records.specs.declared.Fill.{Fill}
 use Rattle.records.proofs.Sums.{plus_empty, fill_same}
@@ -69,7 +69,7 @@ module _ (b : Borrow) (c : Fill) where
     kept_none (x ∷ xs) r d d' e w h = let n = ap (λ (f : Fill). f.ids) w.0 in absurd (omega arith)
 
     -- room for the path and for the row
-    pub kept_room : (xs : List SstId) (l m n : ℕ) (k : List ℕ) → RoomBorrows c l m n (kept_borrow b xs) → to ≡ plus c (id_rows_lem (length xs)) → (to.ids ≡ c.ids → ⊥) → k ≡ b.path
+    pub kept_room : (xs : List SstId) (l m n : ℕ) (k : List ℕ) → RoomBorrows c l m n (kept_borrow b xs) → to ≡ plus c (id_cells (length xs)) → (to.ids ≡ c.ids → ⊥) → k ≡ b.path
         → (c.bytes + length k ≤ n) × ((c.ids ≤ to.ids) × (c.borrows * 9 + 9 ≤ l))
     unfolding borrow_fill
     kept_room [] l m n k h p z e = absurd (z (ap (λ (f : Fill). f.ids) p ∙ omega arith))

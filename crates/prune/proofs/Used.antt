@@ -17,7 +17,7 @@ use Rattle.tables.proofs.Writes.{write_none}
 use Rattle.records.specs.Row.{id_at}
 use Rattle.records.specs.Decode.{ids_in}
 use Rattle.records.specs.Words.{id_words}
-use Rattle.records.specs.Fill.{plus, ids as id_rows_lem}
+use Rattle.records.specs.Fill.{plus, ids as id_cells}
 use Rattle.records.specs.Layout.{ids_laid}
 use Rattle.records.specs.declared.Fill.{Fill}
 use Rattle.records.proofs.Sums.{plus_empty}
@@ -52,7 +52,7 @@ module _ (used : List SstId) (x : SstId) (b : Bool) (e : b ≡ names_of used x) 
     pub one_room : (n : ℕ) → b ≡ true → (c.ids + length (used_only used (x ∷ []))) * 2 ≤ n → (c.ids + 1) * 2 ≤ n
     one_room n h r = rw (one_used h) at r
 
-    pub one_laid : (q : Fill) (d' : List ℕ) → b ≡ true → q ≡ plus c (id_rows_lem 1) → d' ≡ write d (c.ids * 2) (id_words x) → LaidIds c q d d' (used_only used (x ∷ []))
+    pub one_laid : (q : Fill) (d' : List ℕ) → b ≡ true → q ≡ plus c (id_cells 1) → d' ≡ write d (c.ids * 2) (id_words x) → LaidIds c q d d' (used_only used (x ∷ []))
     unfolding ids_laid
     one_laid q d' h p w = rw (one_used h) (p, w ∙ ap (write d (c.ids * 2)) (sym (append-nil (id_words x))))
 

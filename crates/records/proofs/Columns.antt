@@ -9,7 +9,7 @@ use Rattle.tables.specs.Layout.{joined}
 use Rattle.records.specs.Model.{View, Run, Tree, Segment, Borrow}
 use Rattle.records.specs.Words.{view_words, run_words, segment_words, borrow_words, id_words}
 use Rattle.records.specs.Fill.{empty, plus, sum, key_fill, view_keys, view_fill, run_fill, tree_fill, segment_fill, borrow_fill}
-use Rattle.records.specs.Fill.{segments as segment_rows_lem, views as view_rows_lem, runs as run_rows_lem, borrows as borrow_rows_lem, ids as id_rows_lem, bytes}
+use Rattle.records.specs.Fill.{segments as segment_cells, views as view_cells, runs as run_cells, borrows as borrow_cells, ids as id_cells, bytes}
 use Rattle.records.specs.Layout.{run, past_l0, past_prefix, view_row, run_row, segment_row, borrow_row, view_bytes, views_laid, run_bytes, runs_laid, runs_views_laid, tree_bytes, tree_views_laid, tree_runs_laid, segment_bytes, borrow_ids, borrow_path, ids_laid}
 use Rattle.records.specs.declared.Fill.{Fill}
 use Rattle.records.proofs.Sums.{fill_same, sum_is}
@@ -22,13 +22,13 @@ keys_fill (k ∷ ks) = rw (keys_fill ks, length-append)
 
 -- ---- views
 
-pub view_fill_lem : (v : View) → view_fill v ≡ plus (view_rows_lem 1) (bytes (length (view_bytes v)))
+pub view_fill_lem : (v : View) → view_fill v ≡ plus (view_cells 1) (bytes (length (view_bytes v)))
 unfolding view_fill view_bytes
-view_fill_lem v = ap (λ (f : Fill). plus (view_rows_lem 1) f) (keys_fill (view_keys v))
+view_fill_lem v = ap (λ (f : Fill). plus (view_cells 1) f) (keys_fill (view_keys v))
 
-pub views_fill : (vs : List View) → sum view_fill vs ≡ plus (view_rows_lem (length vs)) (bytes (length (joined view_bytes vs)))
+pub views_fill : (vs : List View) → sum view_fill vs ≡ plus (view_cells (length vs)) (bytes (length (joined view_bytes vs)))
 views_fill vs =
-    sum_is view_fill (λ vs. plus (view_rows_lem (length vs)) (bytes (length (joined view_bytes vs)))) refl
+    sum_is view_fill (λ vs. plus (view_cells (length vs)) (bytes (length (joined view_bytes vs)))) refl
     (λ v vs. rw (view_fill_lem v, length-append) (fill_same (omega arith))) vs
 
 pub view_row_long : (c : Fill) (v : View) → length (view_words (view_row c.bytes v)) ≡ at views (view_fill v)
@@ -49,17 +49,17 @@ views_long c vs = column_long view_rows c vs
 
 -- ---- runs
 
-pub run_fill_lem : (r : Run) → run_fill r ≡ plus (run_rows_lem 1) (plus (view_rows_lem (length r.views)) (bytes (length (run_bytes r))))
+pub run_fill_lem : (r : Run) → run_fill r ≡ plus (run_cells 1) (plus (view_cells (length r.views)) (bytes (length (run_bytes r))))
 unfolding run_fill run_bytes
-run_fill_lem r = ap (λ (f : Fill). plus (run_rows_lem 1) f) (views_fill r.views)
+run_fill_lem r = ap (λ (f : Fill). plus (run_cells 1) f) (views_fill r.views)
 
 -- the views of some runs
 abbrev pub runs_views : List Run → List View
 runs_views rs = joined (λ r. r.views) rs
 
-pub runs_fill : (rs : List Run) → sum run_fill rs ≡ plus (run_rows_lem (length rs)) (plus (view_rows_lem (length (runs_views rs))) (bytes (length (joined run_bytes rs))))
+pub runs_fill : (rs : List Run) → sum run_fill rs ≡ plus (run_cells (length rs)) (plus (view_cells (length (runs_views rs))) (bytes (length (joined run_bytes rs))))
 runs_fill rs =
-    sum_is run_fill (λ rs. plus (run_rows_lem (length rs)) (plus (view_rows_lem (length (runs_views rs))) (bytes (length (joined run_bytes rs))))) refl
+    sum_is run_fill (λ rs. plus (run_cells (length rs)) (plus (view_cells (length (runs_views rs))) (bytes (length (joined run_bytes rs))))) refl
     (λ r rs. simp (run_fill_lem r, length-append) (fill_same (omega arith))) rs
 
 pub run_row_long : (c : Fill) (r : Run) → length (run_words (run_row c r)) ≡ at runs (run_fill r)
@@ -85,7 +85,7 @@ run_pool = record { table = pool; words = λ c r. run_bytes r; long = λ c r. ru
 abbrev pub tree_views : Tree → List View
 tree_views t = t.l0 ++ runs_views t.runs
 
-pub tree_fill_lem : (t : Tree) → tree_fill t ≡ plus (run_rows_lem (length t.runs)) (plus (view_rows_lem (length (tree_views t))) (bytes (length (tree_bytes t))))
+pub tree_fill_lem : (t : Tree) → tree_fill t ≡ plus (run_cells (length t.runs)) (plus (view_cells (length (tree_views t))) (bytes (length (tree_bytes t))))
 unfolding tree_fill tree_bytes
 tree_fill_lem t = simp (views_fill t.l0, runs_fill t.runs, length-append) (fill_same (omega arith))
 
@@ -104,14 +104,14 @@ tree_bytes_long t = rw (tree_fill_lem t) (omega arith)
 
 -- ---- segments
 
-pub segment_fill_lem : (s : Segment) → segment_fill s ≡ plus (segment_rows_lem 1) (plus (run_rows_lem (length s.tree.runs)) (plus (view_rows_lem (length (tree_views s.tree))) (bytes (length (segment_bytes s)))))
+pub segment_fill_lem : (s : Segment) → segment_fill s ≡ plus (segment_cells 1) (plus (run_cells (length s.tree.runs)) (plus (view_cells (length (tree_views s.tree))) (bytes (length (segment_bytes s)))))
 unfolding segment_fill segment_bytes
 segment_fill_lem s = simp (tree_fill_lem s.tree, length-append) (fill_same (omega arith))
 
-pub segments_fill : (ss : List Segment) → sum segment_fill ss ≡ plus (segment_rows_lem (length ss)) (plus (run_rows_lem (length (joined (λ s. s.tree.runs) ss))) (plus (view_rows_lem (length (joined (λ s. tree_views s.tree) ss))) (bytes (length (joined segment_bytes ss)))))
+pub segments_fill : (ss : List Segment) → sum segment_fill ss ≡ plus (segment_cells (length ss)) (plus (run_cells (length (joined (λ s. s.tree.runs) ss))) (plus (view_cells (length (joined (λ s. tree_views s.tree) ss))) (bytes (length (joined segment_bytes ss)))))
 segments_fill ss =
     sum_is segment_fill
-    (λ ss. plus (segment_rows_lem (length ss)) (plus (run_rows_lem (length (joined (λ s. s.tree.runs) ss))) (plus (view_rows_lem (length (joined (λ s. tree_views s.tree) ss))) (bytes (length (joined segment_bytes ss))))))
+    (λ ss. plus (segment_cells (length ss)) (plus (run_cells (length (joined (λ s. s.tree.runs) ss))) (plus (view_cells (length (joined (λ s. tree_views s.tree) ss))) (bytes (length (joined segment_bytes ss))))))
     refl
     (λ s ss. simp (segment_fill_lem s, length-append) (fill_same (omega arith))) ss
 
@@ -144,10 +144,10 @@ segment_pool = record { table = pool; words = λ c s. segment_bytes s; long = λ
 -- ---- ids
 
 abbrev pub id_fill : SstId → Fill
-id_fill x = id_rows_lem 1
+id_fill x = id_cells 1
 
-pub ids_fill : (xs : List SstId) → sum id_fill xs ≡ id_rows_lem (length xs)
-ids_fill xs = sum_is id_fill (λ xs. id_rows_lem (length xs)) refl (λ x xs. fill_same (omega arith)) xs
+pub ids_fill : (xs : List SstId) → sum id_fill xs ≡ id_cells (length xs)
+ids_fill xs = sum_is id_fill (λ xs. id_cells (length xs)) refl (λ x xs. fill_same (omega arith)) xs
 
 pub id_row_long : (x : SstId) → length (id_words x) ≡ at ids (id_fill x)
 id_row_long x = id_wide x
@@ -157,14 +157,14 @@ id_rows = record { table = ids; words = λ c x. id_words x; long = λ c x. id_ro
 
 -- ---- borrows
 
-pub borrow_fill_lem : (b : Borrow) → borrow_fill b ≡ plus (borrow_rows_lem 1) (plus (bytes (length b.path)) (id_rows_lem (length b.ids)))
+pub borrow_fill_lem : (b : Borrow) → borrow_fill b ≡ plus (borrow_cells 1) (plus (bytes (length b.path)) (id_cells (length b.ids)))
 unfolding borrow_fill
 borrow_fill_lem b = refl
 
-pub borrows_fill : (bs : List Borrow) → sum borrow_fill bs ≡ plus (borrow_rows_lem (length bs)) (plus (bytes (length (joined borrow_path bs))) (id_rows_lem (length (joined (λ b. b.ids) bs))))
+pub borrows_fill : (bs : List Borrow) → sum borrow_fill bs ≡ plus (borrow_cells (length bs)) (plus (bytes (length (joined borrow_path bs))) (id_cells (length (joined (λ b. b.ids) bs))))
 borrows_fill bs =
     sum_is borrow_fill
-    (λ bs. plus (borrow_rows_lem (length bs)) (plus (bytes (length (joined borrow_path bs))) (id_rows_lem (length (joined (λ b. b.ids) bs)))))
+    (λ bs. plus (borrow_cells (length bs)) (plus (bytes (length (joined borrow_path bs))) (id_cells (length (joined (λ b. b.ids) bs)))))
     refl
     (λ b bs. simp (borrow_fill_lem b, length-append) (fill_same (omega arith))) bs
 

@@ -14,7 +14,7 @@ use Rattle.records.specs.Row.{view_at, run_at, segment_at, borrow_at, id_at}
 use Rattle.records.specs.Words.{id_words}
 use Rattle.records.specs.Decode.{view_in, views_in, run_in, runs_in, tree_in, segment_in, segments_in, ids_in, borrow_in, borrows_in}
 use Rattle.records.specs.Fill.{plus, sum, view_fill, run_fill, segment_fill, borrow_fill}
-use Rattle.records.specs.Fill.{ids as id_rows_lem}
+use Rattle.records.specs.Fill.{ids as id_cells}
 use Rattle.records.specs.Layout.{past_l0, past_prefix, view_row, run_row, tree_row, segment_row, borrow_row, view_bytes, views_laid, run_bytes, runs_laid, runs_views_laid, tree_bytes, tree_views_laid, tree_runs_laid, segment_bytes, segments_laid, segments_views_laid, segments_runs_laid, borrows_laid, borrow_ids, borrow_path, ids_laid}
 use Rattle.records.specs.declared.Fill.{Fill}
 use Rattle.records.proofs.Laid.{views, at, at_plus, Column, column, laid_joined}
@@ -67,7 +67,7 @@ unfolding ids_in ids_laid
 ids_back it n xs h =
     rows_back id_rows (λ d. d.ids) 2 (omega arith) (λ d x. id_wide x) (λ d x. omega arith)
     it (λ i. id_at it i) (λ d xs. Unit) (λ d x xs k g. (id_at_back it d.ids x k, tt))
-    (id_rows_lem n) xs (rw (laid_joined id_fill id_words (id_rows_lem n) xs) h) tt
+    (id_cells n) xs (rw (laid_joined id_fill id_words (id_cells n) xs) h) tt
 
 module _ (vt pt : List ℕ) where
   -- ---- views

@@ -8,9 +8,9 @@ use Rattle.keys.specs.declared.Bound.{Bound}
 use Rattle.keys.specs.declared.Bound.TheVariants.{Unbounded, Included, Excluded}
 use Rattle.ids.specs.declared.SstId.{SstId}
 use Rattle.ids.specs.declared.ViewMark.{ViewMark}
-use Rattle.ids.specs.declared.ViewMark.TheVariants as view_mark_lem
+use Rattle.ids.specs.declared.ViewMark.TheVariants as view_marks
 use Rattle.ids.specs.declared.SstMark.{SstMark}
-use Rattle.ids.specs.declared.SstMark.TheVariants as sst_mark_lem
+use Rattle.ids.specs.declared.SstMark.TheVariants as sst_marks
 use Rattle.ids.specs.declared.Final.{Final}
 use Rattle.ids.specs.declared.Final.TheVariants as final
 use Rattle.tables.proofs.Holds.{Holds, holds_head, holds_word}
@@ -46,13 +46,13 @@ pub visible_back : (v : Visible)
 visible_back All = refl
 visible_back (Only r) = rw (bound_back r.start, bound_back r.end)
 
-pub view_mark_back : (m : ViewMark) → optional view_mark_lem.None view_mark_lem.Some (view_mark_cell m).code (record { 0 = (view_mark_cell m).a; 1 = (view_mark_cell m).b }) ≡ m
-view_mark_back view_mark_lem.None = refl
-view_mark_back (view_mark_lem.Some x) = refl
+pub view_mark_back : (m : ViewMark) → optional view_marks.None view_marks.Some (view_mark_cell m).code (record { 0 = (view_mark_cell m).a; 1 = (view_mark_cell m).b }) ≡ m
+view_mark_back view_marks.None = refl
+view_mark_back (view_marks.Some x) = refl
 
-pub sst_mark_back : (m : SstMark) → optional sst_mark_lem.None sst_mark_lem.Some (sst_mark_cell m).code (record { 0 = (sst_mark_cell m).a; 1 = (sst_mark_cell m).b }) ≡ m
-sst_mark_back sst_mark_lem.None = refl
-sst_mark_back (sst_mark_lem.Some x) = refl
+pub sst_mark_back : (m : SstMark) → optional sst_marks.None sst_marks.Some (sst_mark_cell m).code (record { 0 = (sst_mark_cell m).a; 1 = (sst_mark_cell m).b }) ≡ m
+sst_mark_back sst_marks.None = refl
+sst_mark_back (sst_marks.Some x) = refl
 
 pub final_back : (f : Final) → optional final.None final.Some (final_cell f).code (record { 0 = (final_cell f).a; 1 = (final_cell f).b }) ≡ f
 final_back final.None = refl

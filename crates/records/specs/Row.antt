@@ -4,9 +4,9 @@ use Rattle.keys.specs.declared.Bound.{Bound}
 use Rattle.keys.specs.declared.Bound.TheVariants.{Unbounded, Included, Excluded}
 use Rattle.ids.specs.declared.SstId.{SstId}
 use Rattle.ids.specs.declared.ViewMark.{ViewMark}
-use Rattle.ids.specs.declared.ViewMark.TheVariants as view_mark_lem
+use Rattle.ids.specs.declared.ViewMark.TheVariants as view_marks
 use Rattle.ids.specs.declared.SstMark.{SstMark}
-use Rattle.ids.specs.declared.SstMark.TheVariants as sst_mark_lem
+use Rattle.ids.specs.declared.SstMark.TheVariants as sst_marks
 use Rattle.ids.specs.declared.Final.{Final}
 use Rattle.ids.specs.declared.Final.TheVariants as final
 use Rattle.tables.specs.declared.Window.{Window}
@@ -57,10 +57,10 @@ visible_at t b = optional All Only (at t b) (record { start = bound_at t (b + 1)
 
 -- three words: a code, and the two halves of an id
 abbrev pub view_mark_at : List ℕ → ℕ → ViewMark
-view_mark_at t b = optional view_mark_lem.None view_mark_lem.Some (at t b) (record { 0 = at t (b + 1); 1 = at t (b + 2) })
+view_mark_at t b = optional view_marks.None view_marks.Some (at t b) (record { 0 = at t (b + 1); 1 = at t (b + 2) })
 
 abbrev pub sst_mark_at : List ℕ → ℕ → SstMark
-sst_mark_at t b = optional sst_mark_lem.None sst_mark_lem.Some (at t b) (record { 0 = at t (b + 1); 1 = at t (b + 2) })
+sst_mark_at t b = optional sst_marks.None sst_marks.Some (at t b) (record { 0 = at t (b + 1); 1 = at t (b + 2) })
 
 abbrev pub final_at : List ℕ → ℕ → Final
 final_at t b = optional final.None final.Some (at t b) (record { 0 = at t (b + 1); 1 = at t (b + 2) })

@@ -4,9 +4,9 @@ use Rattle.keys.specs.declared.Bound.{Bound}
 use Rattle.keys.specs.declared.Bound.TheVariants.{Unbounded, Included, Excluded}
 use Rattle.ids.specs.declared.SstId.{SstId}
 use Rattle.ids.specs.declared.ViewMark.{ViewMark}
-use Rattle.ids.specs.declared.ViewMark.TheVariants as view_mark_lem
+use Rattle.ids.specs.declared.ViewMark.TheVariants as view_marks
 use Rattle.ids.specs.declared.SstMark.{SstMark}
-use Rattle.ids.specs.declared.SstMark.TheVariants as sst_mark_lem
+use Rattle.ids.specs.declared.SstMark.TheVariants as sst_marks
 use Rattle.ids.specs.declared.Final.{Final}
 use Rattle.ids.specs.declared.Final.TheVariants as final
 use Rattle.records.specs.declared.Cell.{Cell}
@@ -38,12 +38,12 @@ last_cell Unknown = nothing
 last_cell (Known p) = cell 1 p.at p.len
 
 abbrev pub view_mark_cell : ViewMark → Cell
-view_mark_cell view_mark_lem.None = nothing
-view_mark_cell (view_mark_lem.Some x) = cell 1 x.0 x.1
+view_mark_cell view_marks.None = nothing
+view_mark_cell (view_marks.Some x) = cell 1 x.0 x.1
 
 abbrev pub sst_mark_cell : SstMark → Cell
-sst_mark_cell sst_mark_lem.None = nothing
-sst_mark_cell (sst_mark_lem.Some x) = cell 1 x.0 x.1
+sst_mark_cell sst_marks.None = nothing
+sst_mark_cell (sst_marks.Some x) = cell 1 x.0 x.1
 
 abbrev pub final_cell : Final → Cell
 final_cell final.None = nothing

@@ -6,8 +6,8 @@ use native.Mathlib.Omega.{arith}
 use native.Mathlib.Nat.{add_assoc}
 use lib.ListN.{length, get_or-eq_default}
 use Rattle.tables.specs.declared.Window.{Window}
-use Rattle.ids.specs.declared.ViewMark.TheVariants as view_mark_lem
-use Rattle.ids.specs.declared.SstMark.TheVariants as sst_mark_lem
+use Rattle.ids.specs.declared.ViewMark.TheVariants as view_marks
+use Rattle.ids.specs.declared.SstMark.TheVariants as sst_marks
 use Rattle.records.specs.Row.{at, place_at, window_at, tree_at, optional}
 use Rattle.records.specs.Decode.{tree_in, segments_in}
 use Rattle.records.specs.Model.{segment_trees}
@@ -42,7 +42,7 @@ module _ (t : List ℕ) (b x : ℕ) (e : x ≡ at t (b + 12)) where
 
 -- the views of a source: the watermarks of its tree are not asked for
 pub source_views_lem : (segments runs views pool t : List ℕ) (b : ℕ) (r : TreeRow) (w : Window) (q : Bounding)
-    → r ≡ record { view = view_mark_lem.None; sst = sst_mark_lem.None; l0 = window_at t (b + 6); compacted = window_at t (b + 8) } → w ≡ window_at t (b + 10)
+    → r ≡ record { view = view_marks.None; sst = sst_marks.None; l0 = window_at t (b + 6); compacted = window_at t (b + 8) } → w ≡ window_at t (b + 10)
     → q ≡ bounding_of (joined tree_views (tree_in runs views pool r ∷ segment_trees (segments_in segments runs views pool w))) → q ≡ bounding_of (views_at_word segments runs views pool t b)
 unfolding views_at_word tree_in tree_at
 source_views_lem segments runs views pool t b r w q e f h = h ∙ rw (e, f)

@@ -4,8 +4,8 @@ use mathlib.Core.Path.{◌≡◌, refl, sym, ap, ◌∙◌}
 use mathlib.Core.List.{List, [], ◌∷◌, ◌++◌, append-nil, map, map-append}
 use native.Mathlib.Omega.{arith}
 use lib.ListN.{length, get_or, length-append, get_or-eq_default}
-use Rattle.ids.specs.declared.ViewMark.TheVariants as view_mark_lem
-use Rattle.ids.specs.declared.SstMark.TheVariants as sst_mark_lem
+use Rattle.ids.specs.declared.ViewMark.TheVariants as view_marks
+use Rattle.ids.specs.declared.SstMark.TheVariants as sst_marks
 use Rattle.tables.specs.Layout.{write, up_to, joined}
 use Rattle.tables.specs.Window.{held_of}
 use Rattle.tables.specs.declared.Window.{Window}
@@ -45,7 +45,7 @@ pub word_none : (t : List ℕ) (i : ℕ) → length t ≤ i → 0 ≡ get_or t i
 word_none t i h = sym (get_or-eq_default t 0 {n = i} h)
 
 pub tree_none : (t : List ℕ) (b : ℕ) → length t ≤ b
-    → record { view = view_mark_lem.None; sst = sst_mark_lem.None; l0 = record { first = 0; count = 0 }; compacted = record { first = 0; count = 0 } } ≡ tree_at t b
+    → record { view = view_marks.None; sst = sst_marks.None; l0 = record { first = 0; count = 0 }; compacted = record { first = 0; count = 0 } } ≡ tree_at t b
 unfolding tree_at
 tree_none t b h =
     rw (
