@@ -37,7 +37,7 @@ use Rattle.manifest_read.proofs.Answers.{SameLong, rows_over, rows_judged}
 use Rattle.project_ranges.specs.Config.{Config}
 use Rattle.project_ranges.specs.Args.{global_over, config_over}
 use Rattle.project_ranges.specs.declared.ProjectionConfig.{ProjectionConfig}
-use Rattle.encoded.specs.Encoded.{Encoded, holds, on, by_law as law, by_record as record_by, by_whole as Whole-by, encoded_of, long_of}
+use Rattle.encoded.specs.Encoded.{Encoded, holds, on, by_law as law, by_record as record_by, by_whole as whole_by, encoded_of, long_of}
 use Rattle.standing.proofs.Reading.{read_into, read_is, Accepted, accepted_decode, accepted_judged, read_refused, read_accepted}
 use Rattle.encoded_project.specs.Project.{Outcome, refused_to, config_for, over_got, over_whole, over_in, projected_to, short_any, project_to}
 use Rattle.encoded_project.specs.Steps.{kept_at, read_with, read_behind}
@@ -148,7 +148,7 @@ over_of lim n a own s m e = go (whole_of s) e
     got (is k p) e = judged k (broken_of lim k) e
     got (wrong q) e = let z : ◌≡◌ {A = ℕ} 0 1 = cc in absurd (omega arith)
 
-    go : (x : Whole) → Whole-by lim s x ≡ holds m → over_whole f s x ≡ f m
+    go : (x : Whole) → whole_by lim s x ≡ holds m → over_whole f s x ≡ f m
     go Good e = got (manifest_at s 0) e
     go (Bad q) e = let z : ◌≡◌ {A = ℕ} 0 1 = cc in absurd (omega arith)
 

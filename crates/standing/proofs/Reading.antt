@@ -29,7 +29,7 @@ use Rattle.msgpack.specs.Skip.{whole_of}
 use Rattle.msgpack.specs.declared.Whole.{Whole}
 use Rattle.msgpack.specs.declared.Whole.TheVariants.{Good, Bad}
 use Rattle.manifest_values.specs.Read.{Got, is, wrong, manifest_at}
-use Rattle.manifest_read.specs.Answer.{broken_of, work_room, read_at_of, by_law as law, by_record as record_by, by_whole as Whole-by}
+use Rattle.manifest_read.specs.Answer.{broken_of, work_room, read_at_of, by_law as law, by_record as record_by, by_whole as whole_by}
 use Rattle.encoded.specs.Encoded.{Encoded, holds, refused, by_law, by_record, by_whole, encoded_of, long_of}
 use Rattle.standing.proofs.Staying.{laid_stands, stands_stays, laid_roomy}
 use Rattle.standing.proofs.Placing.{stands_judged}
@@ -88,7 +88,7 @@ module _ (lim : Limits) (c : Fill) (o : Lent) (h : fits (plus c lim.fill) (room_
       got (is m p) = judged m (broken_of lim m) refl
       got (wrong q) = refl
 
-      go : (x : Whole) → Whole-by lim (λ m. given_at lim c m o) s o x ≡ read_into c o (by_whole lim s x)
+      go : (x : Whole) → whole_by lim (λ m. given_at lim c m o) s o x ≡ read_into c o (by_whole lim s x)
       go Good = got (manifest_at s 0)
       go (Bad q) = refl
 

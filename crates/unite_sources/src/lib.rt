@@ -7,8 +7,8 @@ mod tree_shares;
 
 ghost use Rattle.std.specs.Prelude.{◌≡◌, true, ◌+◌, ◌-◌, ◌*◌, ◌≤◌, ◌<◌, length};
 ghost use Rattle.tables.specs.Layout.{up_to};
-ghost use Rattle.ids.specs.declared.ViewMark.TheVariants as view_mark_lem;
-ghost use Rattle.ids.specs.declared.SstMark.TheVariants as sst_mark_lem;
+ghost use Rattle.ids.specs.declared.ViewMark.TheVariants as view_marks;
+ghost use Rattle.ids.specs.declared.SstMark.TheVariants as sst_marks;
 ghost use Rattle.records.specs.Row.{at, place_at, window_at, optional};
 ghost use Rattle.records.specs.Decode.{name_in};
 ghost use Rattle.records.specs.declared.Name.TheVariants.{Absent, Named};
@@ -57,7 +57,7 @@ pub fn window_in(t: &[u64], b: usize, k: usize) -> Window
 
 // The tree's two windows. Its watermarks are not asked for.
 fn tree_at(t: &[u64], b: usize) -> TreeRow
-    ensures { result ≡ record { view = view_mark_lem.None; sst = sst_mark_lem.None; l0 = window_at t.now (b + 6); compacted = window_at t.now (b + 8) } }
+    ensures { result ≡ record { view = view_marks.None; sst = sst_marks.None; l0 = window_at t.now (b + 6); compacted = window_at t.now (b + 8) } }
 {
     let l0 = window_in(t, b, 6);
     let compacted = window_in(t, b, 8);
