@@ -123,8 +123,8 @@ entered_long x (y ∷ ys) = go (sst_order x y) (entered_long x ys)
 
 pub set_more : (set xs : List SstId) (x : SstId) → id_set_from set (xs ++ (x ∷ [])) ≡ id_entered x (id_set_from set xs)
 unfolding id_set_from
-set_more set [] x = refl
-set_more set (y ∷ xs) x = set_more (id_entered y set) xs x
+set_more ys [] x = refl
+set_more ys (y ∷ xs) x = set_more (id_entered y ys) xs x
 
 -- the first k ids stand as a set from `first` on
 pub record Setting (t₀ : List ℕ) (first : ℕ) (g : ℕ → SstId) (n : ℕ) (t : List ℕ) (count k : ℕ) : Type 0 where
