@@ -34,8 +34,7 @@ use records::{Refusal, limits_01};
 // ---- the entry points
 
 // Reads a manifest and writes it anew, in the shortest forms: 0, and how many bytes of `out` it fills.
-#[unsafe(no_mangle)]
-pub extern "C" fn manifest_read(
+pub fn manifest_read(
     s: &[u8],
     room: &[u64; 6],
     segments: &mut [u64],
@@ -54,8 +53,7 @@ pub extern "C" fn manifest_read(
 }
 
 // The tree of a prefix: 0, and 0 for the unsegmented one, 1 and its index for a segment's, 2 where there is none.
-#[unsafe(no_mangle)]
-pub extern "C" fn manifest_lookup(
+pub fn manifest_lookup(
     s: &[u8],
     prefix: &[u8],
     segments: &mut [u64],
@@ -73,8 +71,7 @@ pub extern "C" fn manifest_lookup(
 
 // The segments with some key in a range: 0, and 0 where there are no segments at all, or 1 with the first and the one past the
 // last.
-#[unsafe(no_mangle)]
-pub extern "C" fn manifest_select(
+pub fn manifest_select(
     s: &[u8],
     args: &[u8],
     range: &[u64; 6],
@@ -97,8 +94,7 @@ pub extern "C" fn manifest_select(
 
 // The segment of a prefix: 0, then 0 and its index where it was held, or 1, the index at which it entered with an empty tree, and how
 // many bytes of `out` the manifest fills that it is then in.
-#[unsafe(no_mangle)]
-pub extern "C" fn manifest_insert(
+pub fn manifest_insert(
     s: &[u8],
     prefix: &[u8],
     room: &[u64; 6],
@@ -142,8 +138,7 @@ pub extern "C" fn manifest_insert(
 
 // The segments of the writer's manifest, each tree merged with the compactor's: 0, and how many bytes of `out` the encoded list fills.
 // The tables whose names begin with `both` have room for two manifests, `pool` for the bytes of one.
-#[unsafe(no_mangle)]
-pub extern "C" fn manifest_merge_from_writer(
+pub fn manifest_merge_from_writer(
     writer: &[u8],
     compactor: &[u8],
     room: &[u64; 6],
@@ -189,8 +184,7 @@ pub extern "C" fn manifest_merge_from_writer(
 }
 
 // The segments of either manifest that are not empty once merged: the same.
-#[unsafe(no_mangle)]
-pub extern "C" fn manifest_merge_from_compactor(
+pub fn manifest_merge_from_compactor(
     writer: &[u8],
     compactor: &[u8],
     room: &[u64; 6],
@@ -236,8 +230,7 @@ pub extern "C" fn manifest_merge_from_compactor(
 }
 
 // The ids that a manifest uses and borrows from no one: 0, and how many ids stand at the front of `out`, two words each.
-#[unsafe(no_mangle)]
-pub extern "C" fn manifest_owned(
+pub fn manifest_owned(
     s: &[u8],
     segments: &mut [u64],
     views: &mut [u64],
@@ -255,8 +248,7 @@ pub extern "C" fn manifest_owned(
 
 // A manifest that borrows all it uses, from the parent at `path` or from those that the parent borrows from: 0, and how many bytes
 // of `out` it fills. A fresh UUID for each of its borrows stands in `fresh`, two words each.
-#[unsafe(no_mangle)]
-pub extern "C" fn manifest_clone(
+pub fn manifest_clone(
     s: &[u8],
     path: &[u8],
     checkpoint: &[u64; 2],
@@ -306,8 +298,7 @@ pub extern "C" fn manifest_clone(
 // A manifest narrowed to ranges and a filter: 0, how many segments the mask names, and how many bytes of `out` the result fills. The
 // bounds of the global range and of the own ranges, six words each, are places in `args`. The tables whose names begin with `in` have
 // room for one manifest, their pool for the bytes of `args` too, `used` for the ids of its views, `pool` for the bytes of the result.
-#[unsafe(no_mangle)]
-pub extern "C" fn manifest_project(
+pub fn manifest_project(
     s: &[u8],
     args: &[u8],
     asked: &[u64; 5],

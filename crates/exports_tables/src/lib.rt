@@ -35,8 +35,7 @@ pub struct Laid {
 // ---- calls
 
 // The tree of a prefix, as `manifest_lookup` answers it.
-#[unsafe(no_mangle)]
-pub extern "C" fn tables_lookup(
+pub fn tables_lookup(
     tree: &[u64; 12],
     rest: &[u64; 12],
     tick: i64,
@@ -57,8 +56,7 @@ pub extern "C" fn tables_lookup(
 }
 
 // The segments with some key in a range, as `manifest_select` answers it.
-#[unsafe(no_mangle)]
-pub extern "C" fn tables_select(
+pub fn tables_select(
     tree: &[u64; 12],
     rest: &[u64; 12],
     tick: i64,
@@ -84,8 +82,7 @@ pub extern "C" fn tables_select(
 }
 
 // Writes the manifest in the shortest forms: 0, and how many bytes of `out` it fills.
-#[unsafe(no_mangle)]
-pub extern "C" fn tables_write(
+pub fn tables_write(
     tree: &[u64; 12],
     rest: &[u64; 12],
     tick: i64,
@@ -106,8 +103,7 @@ pub extern "C" fn tables_write(
 }
 
 // Reads a manifest into the tables `out_segments` to `out_pool`: 0, and its own value.
-#[unsafe(no_mangle)]
-pub extern "C" fn tables_read(
+pub fn tables_read(
     s: &[u8],
     segments: &mut [u64],
     views: &mut [u64],
@@ -144,8 +140,7 @@ pub extern "C" fn tables_read(
 
 // The segment of a prefix: 0, then 0 and its index where it was held, or 1 and the index at which it entered with an empty tree; the manifest
 // that it is then in is laid into the tables `out_segments` to `out_pool`.
-#[unsafe(no_mangle)]
-pub extern "C" fn tables_insert(
+pub fn tables_insert(
     tree: &[u64; 12],
     rest: &[u64; 12],
     tick: i64,

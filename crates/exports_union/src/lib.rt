@@ -18,8 +18,7 @@ use records::limits_01;
 // the union stands in `fresh`, two words each. The tables whose names begin with `all` have room for eight manifests, their pool for the
 // bytes of `paths` too, `lent_fresh` for the fresh UUIDs and twice a manifest's borrows, `sets` for the id sets of the borrows of eight
 // manifests within the limits. The five tables without such a name serve each source and then the union, whose bytes stand in `to_pool`.
-#[unsafe(no_mangle)]
-pub extern "C" fn manifest_union(
+pub fn manifest_union(
     s: &[u8],
     ends: &[u64],
     paths: &[u8],
