@@ -2,7 +2,7 @@
 
 use std::os::raw::{c_char, c_int};
 
-/// C's `main`, and not Rust's, whose start the emulator on Arm does not survive.
+/// C's `main`, and not Rust's, since host/build links the program as one of C.
 #[no_mangle]
 pub extern "C" fn main(_: c_int, _: *const *const c_char) -> c_int {
     let argument = std::env::args().nth(1).unwrap_or_default();

@@ -107,7 +107,7 @@ fn port_answer(call: &str) -> String {
 
 #[cfg(not(feature = "port"))]
 fn port_operations() -> Result<Vec<&'static str>, String> {
-    Err("the port is not built in: on x86-64 tools/differ builds it in, elsewhere it is a program, tools/host".to_string())
+    Err("the port is not built in: tools/differ builds it in".to_string())
 }
 
 #[cfg(not(feature = "port"))]

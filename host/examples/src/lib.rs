@@ -1,4 +1,4 @@
-//! Rust's own start does not survive the emulator on Arm, so C's `main` calls the example's.
+//! host/build links the program as one of C, so C's `main` calls the example's.
 
 #[cfg(feature = "program")]
 #[path = "../../manifest/examples/select.rs"]

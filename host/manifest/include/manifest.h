@@ -1,7 +1,8 @@
 /* Manifests of an archive, on byte slices: encoded manifests, plain bytes and numbers in, numbers and encoded bytes out.
- * The proved functions behind it are those of crates/exports and, for manifest_union alone, of crates/exports_union: `rt staticlib exports`
- * writes target/staticlib/libexports.a and `rt staticlib exports_union` libexports_union.a beside it, both for x86-64 Linux. Link both, in
- * any order. Union has a crate of its own since its thirty slices take the prover as long as the nine other calls together.
+ * The proved functions behind it are those of crates/exports_c and, for manifest_union alone, of crates/exports_union_c: `host/build host`
+ * writes host/target/x86_64/libexports.a and libexports_union.a beside it, both for x86-64 Linux; they are out/libexports_c.a and
+ * out/libexports_union_c.a, which `rt lib` makes in those crates. Link both, in any order. Union has a crate of its own since its
+ * twenty-one slices take the prover half as long as the nine other calls together.
  *
  * What each call is owed, and owes:
  *  - A slice is a pointer and a length. The pointer is not NULL, not even where the length is 0, and it is aligned.

@@ -1,5 +1,6 @@
 /* Manifests in tables that the caller holds: the operations of manifest.h without the bytes. The proved functions behind it are those of
- * crates/exports_tables: `rt staticlib exports_tables` writes target/staticlib/libexports_tables.a, for x86-64 Linux.
+ * crates/exports_tables_c: `host/build bench` writes host/target/x86_64/libexports_tables.a, for x86-64 Linux, which is the out/libexports_tables_c.a
+ * that `rt lib` makes in that crate.
  *
  * What manifest.h says of slices holds here too. Each call judges the manifest anew; the tables that it reads may hold anything, and a manifest
  * that breaks a rule is refusal 1. A refused call leaves the tables for its result as they were, and any other leaves them so behind it.

@@ -9,7 +9,7 @@ const USAGE: &str = "usage: host               answers the calls on standard inp
        host --pages       the same, and a call that reads or writes past what it was lent ends the program
        host --operations  names the operations that the port has";
 
-/// C's `main`, and not Rust's, whose start the emulator on Arm does not survive.
+/// C's `main`, and not Rust's, since host/build links the program as one of C.
 #[no_mangle]
 pub extern "C" fn main(_: c_int, _: *const *const c_char) -> c_int {
     panic::set_hook(Box::new(|_| {}));
