@@ -1,8 +1,6 @@
 // The audit program: reads a manifest as MessagePack on standard input and writes five lines, or why it is refused.
 #![tactic(auto)]
 
-use copy::Copied;
-use measure::Measured;
 use records::{Fill, Refusal};
 use std::io;
 use std::io::Read;
@@ -14,8 +12,7 @@ fn put_line(rt: &impl Print, word: &str, n: usize) -> io::Result<()> {
 
 fn put_refusal(rt: &impl Print, r: Refusal) -> io::Result<()> {
     let t = records::tell(r);
-    print!(rt; "refused {} ", t.number)?;
-    put_line(rt, "at", t.place)
+    println!(rt; "refused {} at {}", t.number, t.place)
 }
 
 fn put_fill(rt: &impl Print, f: Fill) -> io::Result<()> {
@@ -55,12 +52,10 @@ fn audit(rt: &impl Print, s: &[u8]) -> io::Result<()> {
         &mut ids,
         &mut pool,
     ) {
-        Copied::Refused(r) => put_refusal(rt, r),
-        Copied::Done(m) => match measure::measure(
-            lim, &segments, &views, &runs, &borrows, &ids, &pool, m,
-        ) {
-            Measured::Fills(f) => put_fill(rt, f),
-            Measured::Broken => put_refusal(rt, Refusal::Unlawful(1)),
+        Err(r) => put_refusal(rt, r),
+        Ok(m) => match measure::measure(lim, &segments, &views, &runs, &borrows, &ids, &pool, m) {
+            Some(f) => put_fill(rt, f),
+            None => put_refusal(rt, Refusal::Unlawful(1)),
         },
     }
 }

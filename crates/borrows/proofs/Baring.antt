@@ -1,4 +1,5 @@
 -- A lawful manifest without its borrows keeps L1, and what the clone fills. Assumes nothing.
+use Rattle.std.specs.Prelude.{None, Ok, Option, Some}
 use Prim.Native.Nat.{ℕ, ◌+◌, ◌/◌}
 use mathlib.Core.Path.{◌≡◌, refl, ap, ◌∙◌}
 use mathlib.Core.Bool.{true, ◌&&◌}
@@ -22,11 +23,8 @@ use Rattle.measure.specs.Within.{all_views, within}
 use Rattle.measure.specs.Placed.{tree_placed, segments_placed, name_placed, borrows_placed, placed}
 use Rattle.measure.specs.Measure.{l1_of, measured_of}
 use Rattle.measure.specs.Walk.{add_of}
-use Rattle.measure.specs.declared.Measured.{Measured}
-use Rattle.measure.specs.declared.Measured.TheVariants.{Broken, Fills}
 use Rattle.measure.proofs.Fits.{under, says_fits}
 use Rattle.lawful.specs.Judge.{judged_of}
-use Rattle.lawful.specs.declared.Judged.TheVariants.{Lawful}
 use Rattle.borrows.specs.Owned.{owned_of}
 use Rattle.borrows.specs.Clone.{renewed_all, cloned_borrows, cloned_of, fresh_at, of_parent}
 use Rattle.borrows.specs.Bare.{bare_of, bare_row, lent_fill}
@@ -64,22 +62,22 @@ bare_within lim m h =
     let w = within_parts lim m h in
     parts_within lim (bare_of m) (record { numbers = fits_first (manifest_fill (bare_of m)) (sum borrow_fill m.borrows) lim.fill (rw (bare_over m) at w.numbers); prefixes = w.prefixes; name = w.name; keys = w.keys; paths = refl })
 
-measured_fills : (lim : Limits) (l : Lent) (m : ManifestRow) → placed l m ≡ true → within lim (manifest_in l m) ≡ true → measured_of lim l m ≡ Fills (manifest_fill (manifest_in l m))
+measured_fills : (lim : Limits) (l : Lent) (m : ManifestRow) → placed l m ≡ true → within lim (manifest_in l m) ≡ true → measured_of lim l m ≡ Some (manifest_fill (manifest_in l m))
 unfolding measured_of l1_of
 measured_fills lim l m p w = rw (p, w)
 
 -- what is measured fills
-pub filled : (r : Measured) (f g : Fill) → r ≡ Fills g → r ≡ Fills f → f ≡ g
+pub filled : (r : Option Fill) (f g : Fill) → r ≡ Some g → r ≡ Some f → f ≡ g
 filled r f g e h = cc
 
-pub unbroken : {A : Type 0} (r : Measured) (g : Fill) → r ≡ Fills g → r ≡ Broken → A
+pub unbroken : {A : Type 0} (r : Option Fill) (g : Fill) → r ≡ Some g → r ≡ None → A
 unbroken r g e h = let z : ◌≡◌ {A = ℕ} 0 1 = cc in absurd (omega arith)
 
-module _ (lim : Limits) (l : Lent) (m : ManifestRow) (h : judged_of lim l m ≡ Lawful) where
-  pub whole_fills : (r : Measured) → r ≡ measured_of lim l m → r ≡ Fills (manifest_fill (manifest_in l m))
+module _ (lim : Limits) (l : Lent) (m : ManifestRow) (h : judged_of lim l m ≡ Ok tt) where
+  pub whole_fills : (r : Option Fill) → r ≡ measured_of lim l m → r ≡ Some (manifest_fill (manifest_in l m))
   whole_fills r e = let k = keeps lim l m h in e ∙ measured_fills lim l m k.placed k.within
 
-  pub bare_fills : (b : ManifestRow) (r : Measured) → b ≡ bare_row m → r ≡ measured_of lim l b → r ≡ Fills (manifest_fill (bare_of (manifest_in l m)))
+  pub bare_fills : (b : ManifestRow) (r : Option Fill) → b ≡ bare_row m → r ≡ measured_of lim l b → r ≡ Some (manifest_fill (bare_of (manifest_in l m)))
   bare_fills b r q e =
       let k = keeps lim l m h in
       e ∙ rw (q, ← bare_in l m) (measured_fills lim l (bare_row m) (bare_placed l m k.placed) (rw (bare_in l m) (bare_within lim (manifest_in l m) k.within)))
@@ -103,7 +101,7 @@ module _ (m : Manifest) (path : List ℕ) (cp : Uuid) (fresh : List Uuid) where
   pub clone_fill : manifest_fill (cloned_of m path cp fresh) ≡ plus (manifest_fill m) (lent_fill path (owned_of m))
   clone_fill = clone_over_bare ∙ rw (borrows_fill, bare_over m) (fill_same (omega arith))
 
-pub clone_adds : (lim : Limits) (l : Lent) (m : ManifestRow) (path : List ℕ) (f : Fill) (n : ℕ) (a : Measured) → f ≡ manifest_fill (manifest_in l m) → n ≡ length (owned_of (manifest_in (poolless l) m))
+pub clone_adds : (lim : Limits) (l : Lent) (m : ManifestRow) (path : List ℕ) (f : Fill) (n : ℕ) (a : Option Fill) → f ≡ manifest_fill (manifest_in l m) → n ≡ length (owned_of (manifest_in (poolless l) m))
     → a ≡ add_of lim.fill f (record { segments = 0; views = 0; runs = 0; borrows = 1; ids = n; bytes = length path }) → a ≡ add_of lim.fill (manifest_fill (manifest_in l m)) (lent_fill path (owned_of (manifest_in l m)))
 clone_adds lim l m path f n a e h q =
     let k : n ≡ length (owned_of (manifest_in l m)) = h ∙ ap length (owned_poolless l m) in

@@ -1,4 +1,5 @@
 -- Which answer the clone gives, by its tests. Assumes nothing.
+use Rattle.std.specs.Prelude.{Err, None, Ok, Option, Result, Some}
 use Prim.Native.Nat.{ℕ, ◌/◌, ◌≤◌, ◌<◌}
 use mathlib.Core.Path.{◌≡◌, refl, sym, ap, ◌∙◌}
 use mathlib.Core.Bool.{Bool, true, false, not}
@@ -21,17 +22,12 @@ use Rattle.records.specs.declared.ManifestRow.{ManifestRow}
 use Rattle.records.specs.declared.Refusal.TheVariants.{Unlawful, OverLimit, NoRoom, NoFinal, TooFewFresh}
 use Rattle.records.proofs.Columns.{keys_fill, tree_fill_lem, segments_fill, borrows_fill}
 use Rattle.measure.specs.Walk.{add_of}
-use Rattle.measure.specs.declared.Measured.{Measured}
-use Rattle.measure.specs.declared.Measured.TheVariants.{Broken, Fills}
 use Rattle.lawful.specs.Judge.{judged_of}
-use Rattle.lawful.specs.declared.Judged.{Judged}
-use Rattle.lawful.specs.declared.Judged.TheVariants.{Lawful, Breaks}
 use Rattle.copy.specs.Copy.{room_of, no_room}
 use Rattle.borrows.specs.Owned.{owned_of}
 use Rattle.borrows.specs.Clone.{uuids_of, cloned_borrows, cloned_of, refuses15}
 use Rattle.borrows.specs.Bare.{lent_fill}
 use Rattle.borrows.specs.Answer.{ClonedOutcome, refused, cloned_given, cloned_in}
-use Rattle.borrows.specs.declared.ClonedAs.TheVariants.{Done}
 use Rattle.borrows.proofs.Renewing.{lacks_plain, uuids_long}
 use Rattle.borrows.proofs.Lending.{held_is}
 use Rattle.borrows.proofs.Baring.{clone_fill}
@@ -39,19 +35,19 @@ use Rattle.borrows.proofs.Cloning.{cloned_count}
 
 -- ---- what the sum tells
 
-sum_broken : (most c more : Fill) → add_of most c more ≡ Broken → fits (plus c more) most ≡ false
+sum_broken : (most c more : Fill) → add_of most c more ≡ None → fits (plus c more) most ≡ false
 unfolding add_of
 sum_broken most c more h = go (fits (plus c more) most) h
   where
-    go : (b : Bool) → pick b (Fills (plus c more)) Broken ≡ Broken → b ≡ false
+    go : (b : Bool) → pick b (Some (plus c more)) None ≡ None → b ≡ false
     go true e = let z : ◌≡◌ {A = ℕ} 0 1 = cc in absurd (omega arith)
     go false e = refl
 
-sum_fills : (most c more f : Fill) → add_of most c more ≡ Fills f → (f ≡ plus c more) × (fits (plus c more) most ≡ true)
+sum_fills : (most c more f : Fill) → add_of most c more ≡ Some f → (f ≡ plus c more) × (fits (plus c more) most ≡ true)
 unfolding add_of
 sum_fills most c more f h = go (fits (plus c more) most) h
   where
-    go : (b : Bool) → pick b (Fills (plus c more)) Broken ≡ Fills f → (f ≡ plus c more) × (b ≡ true)
+    go : (b : Bool) → pick b (Some (plus c more)) None ≡ Some f → (f ≡ plus c more) × (b ≡ true)
     go true e = (cc, refl)
     go false e = let z : ◌≡◌ {A = ℕ} 0 1 = cc in absurd (omega arith)
 
@@ -86,12 +82,12 @@ module _ (lim : Limits) (l : Lent) (m : ManifestRow) (path : List ℕ) (cp : Uui
     unfolding cloned_given
     given_no_final t = rw (finals ∙ t)
 
-    module _ (g : r ≡ false) (s : Measured) (q : s ≡ add_of lim.fill (manifest_fill from) (lent_fill path (owned_of from))) where
-      pub given_over : s ≡ Broken → refused NoRoom o ≡ cloned_given lim from path cp (uuids_of ws) o
+    module _ (g : r ≡ false) (s : Option Fill) (q : s ≡ add_of lim.fill (manifest_fill from) (lent_fill path (owned_of from))) where
+      pub given_over : s ≡ None → refused NoRoom o ≡ cloned_given lim from path cp (uuids_of ws) o
       unfolding cloned_given no_room
       given_over t = let b : fits (manifest_fill clone) lim.fill ≡ false = rw (clone_fill from path cp (uuids_of ws)) (sum_broken lim.fill (manifest_fill from) (lent_fill path (owned_of from)) (sym q ∙ t)) in rw (finals ∙ g, b)
 
-      module _ (f : Fill) (t : s ≡ Fills f) where
+      module _ (f : Fill) (t : s ≡ Some f) where
         filled : (f ≡ manifest_fill clone) × (fits (manifest_fill clone) lim.fill ≡ true)
         filled = rw (clone_fill from path cp (uuids_of ws)) (sum_fills lim.fill (manifest_fill from) (lent_fill path (owned_of from)) f (sym q ∙ t))
 
@@ -124,7 +120,7 @@ module _ (lim : Limits) (l : Lent) (m : ManifestRow) (path : List ℕ) (cp : Uui
               pub given_done : (q : ManifestRow) (segments views runs borrows ids pool : List ℕ) → q ≡ manifest_row clone
                   → segments ≡ over o.segments (layout clone).segments → views ≡ over o.views (layout clone).views → runs ≡ over o.runs (layout clone).runs
                   → borrows ≡ over o.borrows (layout clone).borrows → ids ≡ over o.ids (layout clone).ids → pool ≡ over o.pool (layout clone).pool
-                  → record { answer = Done q; out = record { segments = segments; views = views; runs = runs; borrows = borrows; ids = ids; pool = pool } } ≡ cloned_given lim from path cp (uuids_of ws) o
+                  → record { answer = Ok q; out = record { segments = segments; views = views; runs = runs; borrows = borrows; ids = ids; pool = pool } } ≡ cloned_given lim from path cp (uuids_of ws) o
               unfolding cloned_given no_room
               given_done q sx vx rx bx ix px e0 e1 e2 e3 e4 e5 e6 =
                   let v : ltb (length (uuids_of ws)) (length clone.borrows) ≡ false = rw (uuids_long ws, ← counted) (le-ltb (length ws / 2) f.borrows h) in
@@ -137,11 +133,11 @@ module _ (lim : Limits) (l : Lent) (m : ManifestRow) (path : List ℕ) (cp : Uui
   unfolding cloned_in
   cloned_over h = rw (lt-ltb lim.path (length path) h)
 
-  module _ (h : length path ≤ lim.path) (j : Judged) (e : j ≡ judged_of lim l m) where
-    pub cloned_broken : (rule : ℕ) → j ≡ Breaks rule → refused (Unlawful rule) o ≡ cloned_in lim l m path cp fresh o
+  module _ (h : length path ≤ lim.path) (j : Result Unit ℕ) (e : j ≡ judged_of lim l m) where
+    pub cloned_broken : (rule : ℕ) → j ≡ Err rule → refused (Unlawful rule) o ≡ cloned_in lim l m path cp fresh o
     unfolding cloned_in
     cloned_broken rule t = rw (le-ltb lim.path (length path) h, sym e ∙ t)
 
-    pub cloned_lawful : (x : ClonedOutcome) → j ≡ Lawful → x ≡ cloned_given lim (manifest_in l m) path cp fresh o → x ≡ cloned_in lim l m path cp fresh o
+    pub cloned_lawful : (x : ClonedOutcome) → j ≡ Ok tt → x ≡ cloned_given lim (manifest_in l m) path cp fresh o → x ≡ cloned_in lim l m path cp fresh o
     unfolding cloned_in
     cloned_lawful x t g = rw (le-ltb lim.path (length path) h, sym e ∙ t) g

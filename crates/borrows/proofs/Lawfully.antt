@@ -1,4 +1,5 @@
 -- What a lawful manifest keeps, and how many ids it owns at most. Assumes nothing.
+use Rattle.std.specs.Prelude.{Err, Ok, Result}
 use Prim.Native.Nat.{ℕ, ◌≤◌}
 use mathlib.Core.Path.{◌≡◌, refl, ap}
 use mathlib.Core.Bool.{Bool, true, false, not, ◌&&◌}
@@ -22,8 +23,6 @@ use Rattle.measure.specs.Measure.{l1_of}
 use Rattle.measure.proofs.Fits.{under}
 use Rattle.lawful.specs.Law.{l2_of, l3_of, l4_of, l5_of}
 use Rattle.lawful.specs.Judge.{judged_of}
-use Rattle.lawful.specs.declared.Judged.{Judged}
-use Rattle.lawful.specs.declared.Judged.TheVariants.{Lawful, Breaks}
 use Rattle.borrows.specs.Owned.{is_borrowed, unborrowed, owned_of}
 use Rattle.borrows.proofs.Poolless.{segments_joined}
 
@@ -38,7 +37,7 @@ pub record Keeps (lim : Limits) (l : Lent) (m : ManifestRow) : Type 0 where
   pub l5 : l5_of (manifest_in l m) ≡ true
 
 -- a rule that is broken is named
-unbroken : (b : Bool) (rule : ℕ) (j : Judged) → pick (not b) (Breaks rule) j ≡ Lawful → (b ≡ true) × (j ≡ Lawful)
+unbroken : (b : Bool) (rule : ℕ) (j : Result Unit ℕ) → pick (not b) (Err rule) j ≡ Ok tt → (b ≡ true) × (j ≡ Ok tt)
 unbroken true rule j h = (refl, h)
 unbroken false rule j h = let z : ◌≡◌ {A = ℕ} 0 1 = cc in absurd (omega arith)
 
@@ -46,7 +45,7 @@ pub both : (a b : Bool) → (a && b) ≡ true → (a ≡ true) × (b ≡ true)
 both true b h = (refl, h)
 both false b h = let z : ◌≡◌ {A = ℕ} 0 1 = cc in absurd (omega arith)
 
-module _ (lim : Limits) (l : Lent) (m : ManifestRow) (h : judged_of lim l m ≡ Lawful) where
+module _ (lim : Limits) (l : Lent) (m : ManifestRow) (h : judged_of lim l m ≡ Ok tt) where
   pub keeps : Keeps lim l m
   unfolding judged_of l1_of
   keeps =

@@ -1,4 +1,5 @@
 -- Which answer owned ids give, by their tests. Assumes nothing.
+use Rattle.std.specs.Prelude.{Err, Ok, Result}
 use Prim.Native.Nat.{ℕ, ◌+◌, ◌*◌, ◌/◌, ◌^◌, ◌≤◌, ◌<◌}
 use mathlib.Core.Path.{◌≡◌, refl, sym, ap, ◌∙◌}
 use mathlib.Core.Bool.{Bool, true, false, not, ◌&&◌}
@@ -16,13 +17,10 @@ use Rattle.records.specs.declared.ManifestRow.{ManifestRow}
 use Rattle.records.specs.declared.Refusal.TheVariants.{Unlawful, NoRoom}
 use Rattle.measure.proofs.Fits.{under}
 use Rattle.lawful.specs.Judge.{judged_of}
-use Rattle.lawful.specs.declared.Judged.{Judged}
-use Rattle.lawful.specs.declared.Judged.TheVariants.{Lawful, Breaks}
 use Rattle.copy.specs.Copy.{no_room}
 use Rattle.borrows.specs.Owned.{owned_of}
 use Rattle.borrows.specs.Places.{put_from}
 use Rattle.borrows.specs.Answer.{OwnedOutcome, owned_given, owned_in}
-use Rattle.borrows.specs.declared.Owned.TheVariants.{Done, Refused}
 use Rattle.borrows.proofs.Putting.{put_laid}
 use Rattle.borrows.proofs.Poolless.{poolless, owned_poolless}
 use Rattle.borrows.proofs.Lawfully.{keeps, owned_most}
@@ -37,7 +35,7 @@ room_fits lim room f h = go (fits f lim.fill) (fits f room) h
     go true false e = let z : ◌≡◌ {A = ℕ} 0 1 = cc in absurd (omega arith)
     go false y e = let z : ◌≡◌ {A = ℕ} 0 1 = cc in absurd (omega arith)
 
-module _ (lim : Limits) (l : Lent) (m : ManifestRow) (h : judged_of lim l m ≡ Lawful) where
+module _ (lim : Limits) (l : Lent) (m : ManifestRow) (h : judged_of lim l m ≡ Ok tt) where
   pub count_small : lim.fill.views < 2 ^ 64 → length (owned_of (manifest_in (poolless l) m)) < 2 ^ 64
   count_small v = rw (owned_poolless l m) (omega (arith, owned_most lim (manifest_in l m) (keeps lim l m h).within))
 
@@ -49,11 +47,11 @@ module _ (lim : Limits) (l : Lent) (m : ManifestRow) (d : List ℕ) (n : ℕ) (e
   tested : no_room lim (ids (length d / 2)) (ids (length (owned_of (manifest_in l m)))) ≡ b
   tested = rw (← counted, ← p, ← q) (sym r)
 
-  pub owned_no_room : b ≡ true → record { answer = Refused NoRoom; out = d } ≡ owned_given lim (manifest_in l m) d
+  pub owned_no_room : b ≡ true → record { answer = Err NoRoom; out = d } ≡ owned_given lim (manifest_in l m) d
   unfolding owned_given
   owned_no_room t = rw (tested ∙ t)
 
-  pub owned_done : (d' : List ℕ) → b ≡ false → d' ≡ put_from d 0 (owned_of (manifest_in (poolless l) m)) → record { answer = Done n; out = d' } ≡ owned_given lim (manifest_in l m) d
+  pub owned_done : (d' : List ℕ) → b ≡ false → d' ≡ put_from d 0 (owned_of (manifest_in (poolless l) m)) → record { answer = Ok n; out = d' } ≡ owned_given lim (manifest_in l m) d
   unfolding owned_given
   owned_done d' t w =
       let xs = owned_of (manifest_in l m) in
@@ -65,14 +63,14 @@ module _ (lim : Limits) (l : Lent) (m : ManifestRow) (d : List ℕ) (n : ℕ) (e
 
 -- ---- the law first
 
-module _ (lim : Limits) (l : Lent) (m : ManifestRow) (d : List ℕ) (j : Judged) (e : j ≡ judged_of lim l m) where
-  pub judged_so : j ≡ Lawful → judged_of lim l m ≡ Lawful
+module _ (lim : Limits) (l : Lent) (m : ManifestRow) (d : List ℕ) (j : Result Unit ℕ) (e : j ≡ judged_of lim l m) where
+  pub judged_so : j ≡ Ok tt → judged_of lim l m ≡ Ok tt
   judged_so t = sym e ∙ t
 
-  pub owned_broken : (rule : ℕ) → j ≡ Breaks rule → record { answer = Refused (Unlawful rule); out = d } ≡ owned_in lim l m d
+  pub owned_broken : (rule : ℕ) → j ≡ Err rule → record { answer = Err (Unlawful rule); out = d } ≡ owned_in lim l m d
   unfolding owned_in
   owned_broken rule t = rw (sym e ∙ t)
 
-  pub owned_lawful : (o : OwnedOutcome) → j ≡ Lawful → o ≡ owned_given lim (manifest_in l m) d → o ≡ owned_in lim l m d
+  pub owned_lawful : (o : OwnedOutcome) → j ≡ Ok tt → o ≡ owned_given lim (manifest_in l m) d → o ≡ owned_in lim l m d
   unfolding owned_in
   owned_lawful o t g = rw (sym e ∙ t) g

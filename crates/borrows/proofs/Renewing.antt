@@ -1,4 +1,5 @@
 -- Borrows renewed one by one: final checkpoints, fresh UUIDs, rows. Assumes nothing.
+use Rattle.std.specs.Prelude.{None, Option, Some}
 use Prim.Native.Nat.{ℕ, zero, suc, ◌+◌, ◌*◌, ◌/◌, ◌≤◌, ◌<◌}
 use mathlib.Core.Path.{◌≡◌, refl, sym, ap, ◌∙◌}
 use mathlib.Core.Bool.{Bool, true, false, not, ◌||◌, ◌&&◌, or_assoc}
@@ -11,8 +12,6 @@ use Rattle.tables.specs.Window.{held_of}
 use Rattle.tables.specs.declared.Window.{Window}
 use Rattle.tables.proofs.Joined.{up_to_length}
 use Rattle.ids.specs.declared.Uuid.{Uuid}
-use Rattle.ids.specs.declared.Final.{Final}
-use Rattle.ids.specs.declared.Final.TheVariants.{None, Some}
 use Rattle.records.specs.Model.{Borrow}
 use Rattle.records.specs.Row.{borrow_at}
 use Rattle.records.specs.Decode.{borrow_in, borrows_in}
@@ -82,7 +81,7 @@ module _ (borrows : List ℕ) (w : Window) where
 
 pub ruleset lacking = (lacks_none, lacks_more, lacks_here, lacks_all)
 
-pub final_none : (f : Final) → f ≡ None → ◌≡◌ {A = Uuid} (0, 0) (final_of f)
+pub final_none : (f : Option Uuid) → f ≡ None → ◌≡◌ {A = Uuid} (0, 0) (final_of f)
 final_none f e = rw e
 
 -- ---- fresh UUIDs

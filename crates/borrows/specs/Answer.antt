@@ -1,5 +1,5 @@
 -- What owned ids and clone answer, and what the lent outputs then hold.
-use Rattle.std.specs.Prelude.{ℕ, ◌/◌, List, [], ◌∷◌, ltb, length}
+use Rattle.std.specs.Prelude.{ℕ, ◌/◌, List, [], ◌∷◌, ltb, length, Err, Ok, Result}
 use Rattle.keys.specs.Pick.{pick}
 use Rattle.tables.specs.Layout.{over}
 use Rattle.ids.specs.declared.Uuid.{Uuid}
@@ -17,19 +17,15 @@ use Rattle.copy.specs.Copy.{room_of, no_room, laid_over}
 use Rattle.segments.specs.Refuses.{refuses1, first_broken}
 use Rattle.borrows.specs.Owned.{owned_of}
 use Rattle.borrows.specs.Clone.{cloned_of, refuses15, refuses16}
-use Rattle.borrows.specs.declared.Owned.{Owned}
-use Rattle.borrows.specs.declared.Owned.TheVariants as owned_as
-use Rattle.borrows.specs.declared.ClonedAs.{ClonedAs}
-use Rattle.borrows.specs.declared.ClonedAs.TheVariants as cloned_as
 
 -- ---- owned ids
 
 -- an answer, and what the lent list of ids holds
 pub record OwnedOutcome : Type 0 where
-  pub answer : Owned
+  pub answer : Result ℕ Refusal
   pub out : List ℕ
 
--- "Owned ids ask places in the id table"
+-- "(Result ℕ Refusal) ids ask places in the id table"
 abbrev pub id_room : List ℕ → Fill
 id_room out = ids (length out / 2)
 
@@ -37,29 +33,29 @@ id_room out = ids (length out / 2)
 unfoldable pub owned_given : Limits → Manifest → List ℕ → OwnedOutcome
 owned_given lim m out =
     pick (no_room lim (id_room out) (ids (length (owned_of m))))
-    (record { answer = owned_as.Refused NoRoom; out = out })
-    (record { answer = owned_as.Done (length (owned_of m)); out = over out (ids_laid (owned_of m)) })
+    (record { answer = Err NoRoom; out = out })
+    (record { answer = Ok (length (owned_of m)); out = over out (ids_laid (owned_of m)) })
 
 -- 1, 4
 unfoldable pub owned_in : Limits → Lent → ManifestRow → List ℕ → OwnedOutcome
 owned_in lim l m out =
-    pick (refuses1 lim l m) (record { answer = owned_as.Refused (Unlawful (first_broken lim l m)); out = out })
+    pick (refuses1 lim l m) (record { answer = Err (Unlawful (first_broken lim l m)); out = out })
     (owned_given lim (manifest_in l m) out)
 
 -- the number and the values of each answer
-abbrev pub owned_says : Owned → List ℕ
-owned_says (owned_as.Done n) = 0 ∷ n ∷ []
-owned_says (owned_as.Refused r) = refusal r
+abbrev pub owned_says : Result ℕ Refusal → List ℕ
+owned_says (Ok n) = 0 ∷ n ∷ []
+owned_says (Err r) = refusal r
 
 -- ---- clone
 
 -- an answer, and what the lent output tables hold
 pub record ClonedOutcome : Type 0 where
-  pub answer : ClonedAs
+  pub answer : Result ManifestRow Refusal
   pub out : Lent
 
 abbrev pub refused : Refusal → Lent → ClonedOutcome
-refused r o = record { answer = cloned_as.Refused r; out = o }
+refused r o = record { answer = Err r; out = o }
 
 -- 15, 4, 16
 unfoldable pub cloned_given : Limits → Manifest → List ℕ → Uuid → List Uuid → Lent → ClonedOutcome
@@ -67,7 +63,7 @@ cloned_given lim m path checkpoint fresh o =
     pick (refuses15 m.borrows) (refused NoFinal o)
     (pick (no_room lim (room_of o) (manifest_fill (cloned_of m path checkpoint fresh))) (refused NoRoom o)
     (pick (refuses16 (cloned_of m path checkpoint fresh).borrows fresh) (refused TooFewFresh o)
-    (record { answer = cloned_as.Done (manifest_row (cloned_of m path checkpoint fresh)); out = laid_over o (layout (cloned_of m path checkpoint fresh)) })))
+    (record { answer = Ok (manifest_row (cloned_of m path checkpoint fresh)); out = laid_over o (layout (cloned_of m path checkpoint fresh)) })))
 
 -- "2 | .. path argument .. over its limit", then 1
 unfoldable pub cloned_in : Limits → Lent → ManifestRow → List ℕ → Uuid → List Uuid → Lent → ClonedOutcome
@@ -76,6 +72,6 @@ cloned_in lim l m path checkpoint fresh o =
     (pick (refuses1 lim l m) (refused (Unlawful (first_broken lim l m)) o)
     (cloned_given lim (manifest_in l m) path checkpoint fresh o))
 
-abbrev pub cloned_says : ClonedAs → List ℕ
-cloned_says (cloned_as.Done m) = 0 ∷ []
-cloned_says (cloned_as.Refused r) = refusal r
+abbrev pub cloned_says : Result ManifestRow Refusal → List ℕ
+cloned_says (Ok m) = 0 ∷ []
+cloned_says (Err r) = refusal r

@@ -1,9 +1,7 @@
 -- Clone: a manifest that borrows all it uses.
-use Rattle.std.specs.Prelude.{ℕ, suc, Bool, true, false, ◌||◌, List, [], ◌∷◌, ◌++◌, ltb, length, get_or}
+use Rattle.std.specs.Prelude.{ℕ, suc, Bool, true, false, ◌||◌, List, [], ◌∷◌, ◌++◌, ltb, length, get_or, None, Option, Some}
 use Rattle.ids.specs.declared.SstId.{SstId}
 use Rattle.ids.specs.declared.Uuid.{Uuid}
-use Rattle.ids.specs.declared.Final.{Final}
-use Rattle.ids.specs.declared.Final.TheVariants.{None, Some}
 use Rattle.records.specs.Model.{Borrow, Manifest}
 use Rattle.borrows.specs.Owned.{owned_of}
 
@@ -18,7 +16,7 @@ abbrev pub fresh_at : List Uuid → ℕ → Uuid
 fresh_at fresh n = get_or fresh n (0, 0)
 
 -- a borrow's final checkpoint; a borrow without one is refusal 15 before any is used
-abbrev pub final_of : Final → Uuid
+abbrev pub final_of : Option Uuid → Uuid
 final_of None = (0, 0)
 final_of (Some u) = u
 
@@ -57,7 +55,7 @@ cloned_of m path checkpoint fresh =
       compactor_epoch = m.compactor_epoch;
     }
 
-abbrev pub lacks_final : Final → Bool
+abbrev pub lacks_final : Option Uuid → Bool
 lacks_final None = true
 lacks_final (Some u) = false
 

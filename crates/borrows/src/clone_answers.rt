@@ -2,16 +2,14 @@
 ghost use Rattle.std.specs.Prelude.{◌≡◌, ◌/◌, ◌<◌};
 ghost use Rattle.records.specs.Decode.{manifest_in};
 ghost use Rattle.lawful.specs.Judge.{judged_of};
-ghost use Rattle.lawful.specs.declared.Judged.TheVariants.{Lawful};
 ghost use Rattle.borrows.specs.Clone.{uuids_of};
 ghost use Rattle.borrows.specs.Answer.{cloned_given, cloned_in};
 
-use crate::ClonedAs;
 use crate::clone_lenders::lacks_final;
 use crate::clone_rows::{bare_fill, clone_fill, put_clone};
 use ids::Uuid;
-use lawful::{Judged, lawful};
-use measure::{Measured, fits_in};
+use lawful::lawful;
+use measure::fits_in;
 use records::{Fill, Limits, ManifestRow, Refusal};
 
 // The clone of a lawful manifest: the refusals 15, 4 and 16 in this order, then all of it is laid.
@@ -34,17 +32,17 @@ pub fn cloned_judged(
     out_borrows: &mut [u64],
     out_ids: &mut [u64],
     out_pool: &mut [u8],
-) -> ClonedAs
-    requires { judged_of lim (record { segments = segments.now; views = views.now; runs = runs.now; borrows = borrows.now; ids = ids.now; pool = pool.now }) m ≡ Lawful }
+) -> Result<ManifestRow, Refusal>
+    requires { judged_of lim (record { segments = segments.now; views = views.now; runs = runs.now; borrows = borrows.now; ids = ids.now; pool = pool.now }) m ≡ Ok tt }
     ensures { record { answer = result; out = record { segments = out_segments.new; views = out_views.new; runs = out_runs.new; borrows = out_borrows.new; ids = out_ids.new; pool = out_pool.new } } ≡ cloned_given lim (manifest_in (record { segments = segments.now; views = views.now; runs = runs.now; borrows = borrows.now; ids = ids.now; pool = pool.now }) m) path.now checkpoint (uuids_of fresh.now) (record { segments = out_segments.old; views = out_views.old; runs = out_runs.old; borrows = out_borrows.old; ids = out_ids.old; pool = out_pool.old }) }
 {
     let w = m.external_dbs;
     if lacks_final(borrows, w) {
-        return ClonedAs::Refused(Refusal::NoFinal);
+        return Err(Refusal::NoFinal);
     }
     match clone_fill(lim, segments, views, runs, borrows, ids, pool, m, path) {
-        Measured::Broken => ClonedAs::Refused(Refusal::NoRoom),
-        Measured::Fills(f) => {
+        None => Err(Refusal::NoRoom),
+        Some(f) => {
             let room = Fill {
                 segments: out_segments.len() / 12,
                 views: out_views.len() / 16,
@@ -54,13 +52,13 @@ pub fn cloned_judged(
                 bytes: out_pool.len(),
             };
             if !fits_in(f, room) {
-                return ClonedAs::Refused(Refusal::NoRoom);
+                return Err(Refusal::NoRoom);
             }
             if fresh.len() / 2 < f.borrows {
-                return ClonedAs::Refused(Refusal::TooFewFresh);
+                return Err(Refusal::TooFewFresh);
             }
             let c = bare_fill(lim, segments, views, runs, borrows, ids, pool, m);
-            ClonedAs::Done(put_clone(
+            Ok(put_clone(
                 segments,
                 views,
                 runs,
@@ -102,14 +100,14 @@ pub fn cloned(
     out_borrows: &mut [u64],
     out_ids: &mut [u64],
     out_pool: &mut [u8],
-) -> ClonedAs
+) -> Result<ManifestRow, Refusal>
     ensures { record { answer = result; out = record { segments = out_segments.new; views = out_views.new; runs = out_runs.new; borrows = out_borrows.new; ids = out_ids.new; pool = out_pool.new } } ≡ cloned_in lim (record { segments = segments.now; views = views.now; runs = runs.now; borrows = borrows.now; ids = ids.now; pool = pool.now }) m path.now checkpoint (uuids_of fresh.now) (record { segments = out_segments.old; views = out_views.old; runs = out_runs.old; borrows = out_borrows.old; ids = out_ids.old; pool = out_pool.old }) }
 {
     if lim.path < path.len() {
-        return ClonedAs::Refused(Refusal::OverLimit);
+        return Err(Refusal::OverLimit);
     }
     match lawful(lim, segments, views, runs, borrows, ids, pool, m) {
-        Judged::Lawful => cloned_judged(
+        Ok(()) => cloned_judged(
             lim,
             segments,
             views,
@@ -128,6 +126,6 @@ pub fn cloned(
             out_ids,
             out_pool,
         ),
-        Judged::Breaks(rule) => ClonedAs::Refused(Refusal::Unlawful(rule)),
+        Err(rule) => Err(Refusal::Unlawful(rule)),
     }
 }

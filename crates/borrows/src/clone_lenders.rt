@@ -1,6 +1,5 @@
 // The borrows of a clone: those of the parent with new finals, and one for the parent itself.
 ghost use Rattle.std.specs.Prelude.{◌≡◌, true, [], ◌+◌, ◌*◌, ◌/◌, ◌≤◌, ◌<◌, length};
-ghost use Rattle.ids.specs.declared.Final.TheVariants.{Some};
 ghost use Rattle.tables.specs.Layout.{write, joined};
 ghost use Rattle.tables.specs.Window.{held_of};
 ghost use Rattle.records.specs.Row.{borrow_at};
@@ -13,16 +12,16 @@ ghost use Rattle.borrows.specs.Clone.{uuids_of, fresh_at, final_of, renewed, ren
 
 use crate::ids_owned::own_all;
 use emit::{put_borrow, put_borrow_row};
-use ids::{Final, Uuid};
+use ids::Uuid;
 use records::{BorrowRow, Fill, ManifestRow, Place, borrow_at};
-use tables::{Window, held, put_bytes};
+use tables::{Window, held, put};
 
-fn is_missing(f: Final) -> bool
+fn is_missing(f: Option<Uuid>) -> bool
     ensures { result ≡ lacks_final f }
 {
     match f {
-        Final::None => true,
-        Final::Some(_) => false,
+        None => true,
+        Some(_) => false,
     }
 }
 
@@ -32,24 +31,22 @@ pub fn lacks_final(borrows: &[u64], w: Window) -> bool
     ensures { result ≡ refuses15 (borrows_in borrows.now [] [] w) }
 {
     let n = held(w, borrows.len() / 9);
-    let mut k = 0;
-    while k < n {
+    for k in 0..n {
         let b = borrow_at(borrows, w.first + k);
         let f = b.fin;
         if is_missing(f) {
             return true;
         }
-        k += 1;
     }
     false
 }
 
-fn final_of(f: Final) -> Uuid
+fn final_of(f: Option<Uuid>) -> Uuid
     ensures { result ≡ final_of f }
 {
     match f {
-        Final::None => Uuid(0, 0),
-        Final::Some(u) => u,
+        None => Uuid(0, 0),
+        Some(u) => u,
     }
 }
 
@@ -71,7 +68,7 @@ fn renew(b: BorrowRow, u: Uuid) -> BorrowRow
     BorrowRow {
         path,
         source,
-        fin: Final::Some(u),
+        fin: Some(u),
         ids,
     }
 }
@@ -129,8 +126,7 @@ fn put_renewed(
     let n = held(w, borrows.len() / 9);
     let first = w.first;
     let mut to = c;
-    let mut k = 0;
-    while k < n {
+    for k in 0..n {
         to = put_renewed_at(
             borrows,
             first + k,
@@ -143,7 +139,6 @@ fn put_renewed(
             out_pool,
             to,
         );
-        k += 1;
     }
     to
 }
@@ -171,7 +166,7 @@ fn put_parent(
     ensures out_ids_after { out_ids.new ≡ write out_ids.old (c.ids * 2) (borrow_ids (of_parent path.now checkpoint u (owned_of (manifest_in (record { segments = segments.now; views = views.now; runs = runs.now; borrows = borrows.now; ids = ids.now; pool = [] }) m)))) }
     ensures out_pool_after { out_pool.new ≡ write out_pool.old c.bytes (borrow_path (of_parent path.now checkpoint u (owned_of (manifest_in (record { segments = segments.now; views = views.now; runs = runs.now; borrows = borrows.now; ids = ids.now; pool = [] }) m)))) }
 {
-    put_bytes(path, out_pool, c.bytes);
+    put(path, out_pool, c.bytes);
     let past = own_all(segments, views, runs, borrows, ids, m, out_ids, c.ids);
     let row = BorrowRow {
         path: Place {
@@ -179,7 +174,7 @@ fn put_parent(
             len: path.len(),
         },
         source: checkpoint,
-        fin: Final::Some(u),
+        fin: Some(u),
         ids: Window {
             first: c.ids,
             count: past - c.ids,

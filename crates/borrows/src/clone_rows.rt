@@ -6,7 +6,6 @@ ghost use Rattle.records.specs.Layout.{manifest_row, layout};
 ghost use Rattle.records.specs.Decode.{manifest_in};
 ghost use Rattle.records.specs.Fill.{fits, manifest_fill};
 ghost use Rattle.lawful.specs.Judge.{judged_of};
-ghost use Rattle.lawful.specs.declared.Judged.TheVariants.{Lawful};
 ghost use Rattle.copy.specs.Copy.{room_of};
 ghost use Rattle.measure.specs.Walk.{add_of};
 ghost use Rattle.borrows.specs.Owned.{owned_of};
@@ -17,7 +16,7 @@ use crate::clone_lenders::put_clone_borrows;
 use crate::ids_owned::{count_owned, id_fill};
 use copy::{manifest_row, put_manifest};
 use ids::Uuid;
-use measure::{Measured, add, measure};
+use measure::{add, measure};
 use records::{Fill, Limits, ManifestRow};
 use tables::{Window, held};
 
@@ -55,13 +54,13 @@ pub fn bare_fill(
     pool: &[u8],
     m: ManifestRow,
 ) -> Fill
-    requires { judged_of lim (record { segments = segments.now; views = views.now; runs = runs.now; borrows = borrows.now; ids = ids.now; pool = pool.now }) m ≡ Lawful }
+    requires { judged_of lim (record { segments = segments.now; views = views.now; runs = runs.now; borrows = borrows.now; ids = ids.now; pool = pool.now }) m ≡ Ok tt }
     ensures { result ≡ manifest_fill (bare_of (manifest_in (record { segments = segments.now; views = views.now; runs = runs.now; borrows = borrows.now; ids = ids.now; pool = pool.now }) m)) }
 {
     let b = bare(m);
     match measure(lim, segments, views, runs, borrows, ids, pool, b) {
-        Measured::Broken => id_fill(0),
-        Measured::Fills(f) => f,
+        None => id_fill(0),
+        Some(f) => f,
     }
 }
 
@@ -77,13 +76,13 @@ pub fn clone_fill(
     pool: &[u8],
     m: ManifestRow,
     path: &[u8],
-) -> Measured
-    requires { judged_of lim (record { segments = segments.now; views = views.now; runs = runs.now; borrows = borrows.now; ids = ids.now; pool = pool.now }) m ≡ Lawful }
+) -> Option<Fill>
+    requires { judged_of lim (record { segments = segments.now; views = views.now; runs = runs.now; borrows = borrows.now; ids = ids.now; pool = pool.now }) m ≡ Ok tt }
     ensures { result ≡ add_of lim.fill (manifest_fill (manifest_in (record { segments = segments.now; views = views.now; runs = runs.now; borrows = borrows.now; ids = ids.now; pool = pool.now }) m)) (lent_fill path.now (owned_of (manifest_in (record { segments = segments.now; views = views.now; runs = runs.now; borrows = borrows.now; ids = ids.now; pool = pool.now }) m))) }
 {
     match measure(lim, segments, views, runs, borrows, ids, pool, m) {
-        Measured::Broken => Measured::Broken,
-        Measured::Fills(f) => {
+        None => None,
+        Some(f) => {
             let most = lim.fill;
             let more = Fill {
                 segments: 0,

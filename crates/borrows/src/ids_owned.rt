@@ -6,21 +6,19 @@ ghost use Rattle.records.specs.Row.{view_at, run_at, segment_at};
 ghost use Rattle.records.specs.Decode.{view_in, views_in, run_in, runs_in, tree_in, segment_in, segments_in, borrows_in, manifest_in};
 ghost use Rattle.records.specs.Fill.{ids as id_fill};
 ghost use Rattle.lawful.specs.Judge.{judged_of};
-ghost use Rattle.lawful.specs.declared.Judged.TheVariants.{Lawful};
 ghost use Rattle.measure.specs.Within.{run_views, tree_views};
 ghost use Rattle.borrows.specs.Owned.{first_naming, is_borrowed, owned_by, owned_of};
 ghost use Rattle.borrows.specs.Answer.{owned_given, owned_in};
 ghost use Rattle.borrows.specs.Places.{put_at, put_from};
 
-use crate::Owned;
 use copy::no_room;
-use ids::{SstId, same_sst};
-use lawful::{Judged, lawful};
+use ids::{SstId, same};
+use lawful::lawful;
 use records::{
     Fill, Limits, ManifestRow, Refusal, TreeRow, borrow_at, id_at, id_words, run_at, segment_at,
     view_at,
 };
-use tables::{Window, held, put_words};
+use tables::{Window, held, put};
 
 // Which borrow of the window first names `x`, or the number of all. The search is left at the first match.
 // inner
@@ -28,21 +26,17 @@ pub fn first_naming(borrows: &[u64], w: Window, ids: &[u64], x: SstId) -> usize
     ensures { result ≡ first_naming (borrows_in borrows.now ids.now [] w) x }
 {
     let n = held(w, borrows.len() / 9);
-    let mut k = 0;
-    'lists: while k < n {
+    for k in 0..n {
         let b = borrow_at(borrows, w.first + k);
         let list = b.ids;
         let count = held(list, ids.len() / 2);
-        let mut j = 0;
-        while j < count {
-            if same_sst(id_at(ids, list.first + j), x) {
-                break 'lists;
+        for j in 0..count {
+            if same(id_at(ids, list.first + j), x) {
+                return k;
             }
-            j += 1;
         }
-        k += 1;
     }
-    k
+    n
 }
 
 fn is_borrowed(borrows: &[u64], w: Window, ids: &[u64], x: SstId) -> bool
@@ -57,7 +51,7 @@ fn put_at(x: SstId, out: &mut [u64], at: usize)
 {
     if at < out.len() / 2 {
         let row = id_words(x);
-        put_words(&row, out, at * 2);
+        put(&row, out, at * 2);
     }
 }
 
@@ -101,10 +95,8 @@ fn own_views(
     let n = held(w, views.len() / 16);
     let first = w.first;
     let mut to = at;
-    let mut k = 0;
-    while k < n {
+    for k in 0..n {
         to = own_view(views, first + k, borrows, b, ids, out, to);
-        k += 1;
     }
     to
 }
@@ -146,10 +138,8 @@ fn own_runs(
     let n = held(w, runs.len() / 3);
     let first = w.first;
     let mut to = at;
-    let mut k = 0;
-    while k < n {
+    for k in 0..n {
         to = own_run(runs, first + k, views, borrows, b, ids, out, to);
-        k += 1;
     }
     to
 }
@@ -214,10 +204,8 @@ fn own_segments(
     let n = held(w, segments.len() / 12);
     let first = w.first;
     let mut to = at;
-    let mut k = 0;
-    while k < n {
+    for k in 0..n {
         to = own_segment(segments, first + k, runs, views, borrows, b, ids, out, to);
-        k += 1;
     }
     to
 }
@@ -286,18 +274,18 @@ pub fn owned_judged(
     pool: &[u8],
     m: ManifestRow,
     out_ids: &mut [u64],
-) -> Owned
-    requires { judged_of lim (record { segments = segments.now; views = views.now; runs = runs.now; borrows = borrows.now; ids = ids.now; pool = pool.now }) m ≡ Lawful }
+) -> Result<usize, Refusal>
+    requires { judged_of lim (record { segments = segments.now; views = views.now; runs = runs.now; borrows = borrows.now; ids = ids.now; pool = pool.now }) m ≡ Ok tt }
     ensures { record { answer = result; out = out_ids.new } ≡ owned_given lim (manifest_in (record { segments = segments.now; views = views.now; runs = runs.now; borrows = borrows.now; ids = ids.now; pool = pool.now }) m) out_ids.old }
 {
     let n = count_owned(segments, views, runs, borrows, ids, m);
     let room = id_fill(out_ids.len() / 2);
     let result = id_fill(n);
     if no_room(lim, room, result) {
-        return Owned::Refused(Refusal::NoRoom);
+        return Err(Refusal::NoRoom);
     }
     own_all(segments, views, runs, borrows, ids, m, out_ids, 0);
-    Owned::Done(n)
+    Ok(n)
 }
 
 // The ids that a manifest uses and borrows from no one, in record order.
@@ -311,13 +299,11 @@ pub fn owned_ssts(
     pool: &[u8],
     m: ManifestRow,
     out_ids: &mut [u64],
-) -> Owned
+) -> Result<usize, Refusal>
     ensures { record { answer = result; out = out_ids.new } ≡ owned_in lim (record { segments = segments.now; views = views.now; runs = runs.now; borrows = borrows.now; ids = ids.now; pool = pool.now }) m out_ids.old }
 {
     match lawful(lim, segments, views, runs, borrows, ids, pool, m) {
-        Judged::Lawful => {
-            owned_judged(lim, segments, views, runs, borrows, ids, pool, m, out_ids)
-        }
-        Judged::Breaks(rule) => Owned::Refused(Refusal::Unlawful(rule)),
+        Ok(()) => { owned_judged(lim, segments, views, runs, borrows, ids, pool, m, out_ids) }
+        Err(rule) => Err(Refusal::Unlawful(rule)),
     }
 }

@@ -11,17 +11,3 @@ pub use clone_lenders::lacks_final;
 pub use clone_rows::clone_fill;
 pub use ids_owned::{first_naming, own_all, owned_judged, owned_ssts};
 use records::{ManifestRow, Refusal};
-
-// How many ids were laid, or why none was.
-#[derive(Clone, Copy)]
-pub enum Owned {
-    Done(usize),
-    Refused(Refusal),
-}
-
-// The clone's place in the output tables, or why there is none.
-#[derive(Clone, Copy)]
-pub enum ClonedAs {
-    Done(ManifestRow),
-    Refused(Refusal),
-}

@@ -1,4 +1,5 @@
 -- Which answer the copy gives, by its tests; and the room that a fitting result has. Assumes nothing.
+use Rattle.std.specs.Prelude.{Err, None, Ok, Option, Some}
 use mathlib.Core.Path.{◌≡◌, refl, sym, ap, ◌∙◌}
 use mathlib.Core.Bool.{Bool, true, false, not, ◌&&◌}
 use mathlib.Core.List.{List}
@@ -21,11 +22,8 @@ use Rattle.records.proofs.Laid.{Table, segments, views, runs, borrows, ids, pool
 use Rattle.records.proofs.Cursor.{row_front, layout_front}
 use Rattle.measure.specs.Measure.{l1_of, measured_of}
 use Rattle.measure.specs.Walk.{left_of}
-use Rattle.measure.specs.declared.Measured.{Measured}
-use Rattle.measure.specs.declared.Measured.TheVariants.{Broken, Fills}
 use Rattle.measure.proofs.Fits.{says_fits, under, fits_left}
 use Rattle.copy.specs.Copy.{room_of, no_room, no_room_at, laid_over, laid_at, Outcome, given_of, given_at, copy_of, copy_at_of}
-use Rattle.copy.specs.declared.Copied.TheVariants.{Done, Refused}
 
 -- ---- refusal 4
 
@@ -40,20 +38,20 @@ module _ (lim : Limits) (room f : Fill) where
 
 -- ---- what the measure tells
 
-module _ (lim : Limits) (c : Fill) (l : Lent) (m : ManifestRow) (o : Lent) (r : Measured) (q : r ≡ measured_of lim l m) where
-  broken : (b : Bool) → Broken ≡ pick b (Fills (manifest_fill (manifest_in l m))) Broken → b ≡ false
+module _ (lim : Limits) (c : Fill) (l : Lent) (m : ManifestRow) (o : Lent) (r : Option Fill) (q : r ≡ measured_of lim l m) where
+  broken : (b : Bool) → None ≡ pick b (Some (manifest_fill (manifest_in l m))) None → b ≡ false
   broken true e = let z : ◌≡◌ {A = ℕ} 0 1 = cc in absurd (omega arith)
   broken false e = refl
 
-  filled : (f : Fill) (b : Bool) → Fills f ≡ pick b (Fills (manifest_fill (manifest_in l m))) Broken → (b ≡ true) × (f ≡ manifest_fill (manifest_in l m))
+  filled : (f : Fill) (b : Bool) → Some f ≡ pick b (Some (manifest_fill (manifest_in l m))) None → (b ≡ true) × (f ≡ manifest_fill (manifest_in l m))
   filled f true e = (refl, cc)
   filled f false e = let z : ◌≡◌ {A = ℕ} 0 1 = cc in absurd (omega arith)
 
-  pub copy_broken : r ≡ Broken → record { answer = Refused (Unlawful 1); out = o } ≡ copy_at_of lim c l m o
+  pub copy_broken : r ≡ None → record { answer = Err (Unlawful 1); out = o } ≡ copy_at_of lim c l m o
   unfolding measured_of copy_at_of
   copy_broken h = rw (broken (l1_of lim l m) (sym h ∙ q))
 
-  module _ (f : Fill) (h : r ≡ Fills f) where
+  module _ (f : Fill) (h : r ≡ Some f) where
     keeps : (l1_of lim l m ≡ true) × (f ≡ manifest_fill (manifest_in l m))
     unfolding measured_of
     keeps = filled f (l1_of lim l m) (sym h ∙ q)
@@ -64,7 +62,7 @@ module _ (lim : Limits) (c : Fill) (l : Lent) (m : ManifestRow) (o : Lent) (r : 
       unfolding no_room no_room_at
       beside = n ∙ rw (k, keeps.1, fits_left (room_of o) c (manifest_fill (manifest_in l m)) (under c (room_of o) u))
 
-      pub copy_no_room : b ≡ true → record { answer = Refused NoRoom; out = o } ≡ copy_at_of lim c l m o
+      pub copy_no_room : b ≡ true → record { answer = Err NoRoom; out = o } ≡ copy_at_of lim c l m o
       unfolding copy_at_of given_at
       copy_no_room t = rw (keeps.0, sym beside ∙ t)
 
@@ -78,7 +76,7 @@ module _ (lim : Limits) (c : Fill) (l : Lent) (m : ManifestRow) (o : Lent) (r : 
           go true false e = let z : ◌≡◌ {A = ℕ} 0 1 = cc in absurd (omega arith)
           go false y e = let z : ◌≡◌ {A = ℕ} 0 1 = cc in absurd (omega arith)
 
-      copy_done : b ≡ false → record { answer = Done (manifest_row_at c (manifest_in l m)); out = laid_at c o (layout_at c (manifest_in l m)) } ≡ copy_at_of lim c l m o
+      copy_done : b ≡ false → record { answer = Ok (manifest_row_at c (manifest_in l m)); out = laid_at c o (layout_at c (manifest_in l m)) } ≡ copy_at_of lim c l m o
       unfolding copy_at_of given_at
       copy_done t = rw (keeps.0, sym beside ∙ t)
 
@@ -86,10 +84,10 @@ module _ (lim : Limits) (c : Fill) (l : Lent) (m : ManifestRow) (o : Lent) (r : 
       pub copy_given : (row : ManifestRow) (k : Lent) → b ≡ false → row ≡ manifest_row_at c (manifest_in l m) → k.segments ≡ (laid_at c o (layout_at c (manifest_in l m))).segments
           → k.views ≡ (laid_at c o (layout_at c (manifest_in l m))).views → k.runs ≡ (laid_at c o (layout_at c (manifest_in l m))).runs → k.borrows ≡ (laid_at c o (layout_at c (manifest_in l m))).borrows
           → k.ids ≡ (laid_at c o (layout_at c (manifest_in l m))).ids → k.pool ≡ (laid_at c o (layout_at c (manifest_in l m))).pool
-          → ◌≡◌ {A = Outcome} (record { answer = Done row; out = k }) (copy_at_of lim c l m o)
+          → ◌≡◌ {A = Outcome} (record { answer = Ok row; out = k }) (copy_at_of lim c l m o)
       copy_given row k t e s v r w i p =
-          let same : ◌≡◌ {A = Outcome} (record { answer = Done row; out = k }) (record { answer = Done (manifest_row_at c (manifest_in l m)); out = laid_at c o (layout_at c (manifest_in l m)) }) =
-          λ j. record { answer = Done (e j); out = record { segments = s j; views = v j; runs = r j; borrows = w j; ids = i j; pool = p j } } in
+          let same : ◌≡◌ {A = Outcome} (record { answer = Ok row; out = k }) (record { answer = Ok (manifest_row_at c (manifest_in l m)); out = laid_at c o (layout_at c (manifest_in l m)) }) =
+          λ j. record { answer = Ok (e j); out = record { segments = s j; views = v j; runs = r j; borrows = w j; ids = i j; pool = p j } } in
           same ∙ copy_done t
 
 -- ---- at the front is behind nothing
@@ -118,4 +116,4 @@ given_front lim m o = rw (empty_plus (manifest_fill m), row_front m, layout_fron
 
 pub copy_front : (lim : Limits) (l : Lent) (m : ManifestRow) (o : Lent) → copy_at_of lim empty l m o ≡ copy_of lim l m o
 unfolding copy_at_of copy_of
-copy_front lim l m o = ap (λ (x : Outcome). pick (l1_of lim l m) x (record { answer = Refused (Unlawful 1); out = o })) (given_front lim (manifest_in l m) o)
+copy_front lim l m o = ap (λ (x : Outcome). pick (l1_of lim l m) x (record { answer = Err (Unlawful 1); out = o })) (given_front lim (manifest_in l m) o)

@@ -1,4 +1,5 @@
 -- A manifest laid from a cursor on, part after part. Assumes nothing.
+use Rattle.std.specs.Prelude.{Option}
 use mathlib.Core.Path.{◌≡◌, sym, ap, subst, ◌∙◌}
 use mathlib.Core.List.{List, ◌++◌, append_assoc}
 use Prim.Native.Nat.{ℕ, ◌+◌, ◌/◌, ◌≤◌}
@@ -14,7 +15,6 @@ use Rattle.records.specs.Model.{View, Run, Tree, Segment, Borrow, Extractor}
 use Rattle.records.specs.Fill.{plus, sum, key_fill, view_fill, run_fill, tree_fill, segment_fill, name_keys}
 use Rattle.records.specs.Layout.{run, tree_row, tree_runs_laid, tree_views_laid, tree_bytes, segments_laid, segments_runs_laid, segments_views_laid, segment_bytes, name_row, borrows_laid, borrow_ids, borrow_path, manifest_row_at}
 use Rattle.records.specs.declared.Fill.{Fill}
-use Rattle.records.specs.declared.Name.{Name}
 use Rattle.records.specs.declared.ManifestRow.{ManifestRow}
 use Rattle.emit.specs.declared.LaidTree.{LaidTree}
 use Rattle.emit.specs.declared.LaidName.{LaidName}
@@ -23,6 +23,7 @@ use Rattle.records.proofs.Laid.{Table, segments, views, runs, borrows, ids, pool
 use Rattle.emit.proofs.Laid.{room_rest, put_then, put_skip, none_filled, joined_long}
 use Rattle.records.proofs.Columns.{keys_fill, view_fill_lem, run_fill_lem, tree_runs_long, tree_views_long, tree_bytes_long, segment_bytes_long}
 use Rattle.emit.proofs.Columns.{tree_none, tree_no_segments}
+use Rattle.records.specs.declared.Place.{Place}
 
 -- ---- the tree, then the segments
 
@@ -116,7 +117,7 @@ unfolding borrows_in
 borrows_count b i p w = up_to_length (λ k. borrow_in i p (borrow_at b (w.first + k))) (held_of w (length b / 9))
 
 -- a row like m's for the records that stand in x, laid from c on
-pub manifest_laid : (x : Lent) (m : ManifestRow) (c : Fill) (l : LaidTree) (name : Name) (i j : ℕ) (r : ManifestRow)
+pub manifest_laid : (x : Lent) (m : ManifestRow) (c : Fill) (l : LaidTree) (name : Option Place) (i j : ℕ) (r : ManifestRow)
     → l ≡ record { tree = tree_row c (manifest_in x m).tree; past = plus c (plus (tree_fill (manifest_in x m).tree) (sum segment_fill (manifest_in x m).segments)) }
     → name ≡ name_row l.past.bytes (manifest_in x m).extractor → i ≡ held_of m.segments (length x.segments / 12) → j ≡ held_of m.external_dbs (length x.borrows / 9)
     → r ≡ record {

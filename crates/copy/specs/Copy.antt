@@ -1,5 +1,5 @@
 -- The canonical copy: what it answers and what every lent output then holds.
-use Rattle.std.specs.Prelude.{ℕ, ◌*◌, ◌/◌, Bool, not, ◌&&◌, List, [], ◌∷◌, length}
+use Rattle.std.specs.Prelude.{ℕ, ◌*◌, ◌/◌, Bool, not, ◌&&◌, List, [], ◌∷◌, length, Err, Ok, Result}
 use Rattle.keys.specs.Pick.{pick}
 use Rattle.tables.specs.Layout.{write, over}
 use Rattle.records.specs.Model.{Manifest}
@@ -13,8 +13,7 @@ use Rattle.records.specs.declared.Limits.{Limits}
 use Rattle.records.specs.declared.ManifestRow.{ManifestRow}
 use Rattle.measure.specs.Measure.{l1_of}
 unfoldable pub use Rattle.measure.specs.Within.{no_room}
-use Rattle.copy.specs.declared.Copied.{Copied}
-use Rattle.copy.specs.declared.Copied.TheVariants.{Done, Refused}
+use Rattle.records.specs.declared.Refusal.{Refusal}
 
 -- how many places lent tables have, one a record or id, and how many bytes
 abbrev pub room_of : Lent → Fill
@@ -42,19 +41,19 @@ laid_over o l =
 
 -- an answer, and what the lent output tables hold
 pub record Outcome : Type 0 where
-  pub answer : Copied
+  pub answer : Result ManifestRow Refusal
   pub out : Lent
 
 -- A manifest given as a result: laid out canonically where there is room, else refusal 4, nothing changed.
 unfoldable pub given_of : Limits → Manifest → Lent → Outcome
 given_of lim m o =
     pick (no_room lim (room_of o) (manifest_fill m))
-    (record { answer = Refused NoRoom; out = o })
-    (record { answer = Done (manifest_row m); out = laid_over o (layout m) })
+    (record { answer = Err NoRoom; out = o })
+    (record { answer = Ok (manifest_row m); out = laid_over o (layout m) })
 
 -- The copy needs L1 alone; a manifest that breaks it is refusal 1, rule 1.
 unfoldable pub copy_of : Limits → Lent → ManifestRow → Lent → Outcome
-copy_of lim l m o = pick (l1_of lim l m) (given_of lim (manifest_in l m) o) (record { answer = Refused (Unlawful 1); out = o })
+copy_of lim l m o = pick (l1_of lim l m) (given_of lim (manifest_in l m) o) (record { answer = Err (Unlawful 1); out = o })
 
 -- ---- behind what fills c, where the same tables hold several manifests
 
@@ -75,13 +74,13 @@ laid_at c o l =
 unfoldable pub given_at : Limits → Fill → Manifest → Lent → Outcome
 given_at lim c m o =
     pick (no_room_at lim (room_of o) c (manifest_fill m))
-    (record { answer = Refused NoRoom; out = o })
-    (record { answer = Done (manifest_row_at c m); out = laid_at c o (layout_at c m) })
+    (record { answer = Err NoRoom; out = o })
+    (record { answer = Ok (manifest_row_at c m); out = laid_at c o (layout_at c m) })
 
 unfoldable pub copy_at_of : Limits → Fill → Lent → ManifestRow → Lent → Outcome
-copy_at_of lim c l m o = pick (l1_of lim l m) (given_at lim c (manifest_in l m) o) (record { answer = Refused (Unlawful 1); out = o })
+copy_at_of lim c l m o = pick (l1_of lim l m) (given_at lim c (manifest_in l m) o) (record { answer = Err (Unlawful 1); out = o })
 
 -- the number and the values of each answer
-abbrev pub copied : Copied → List ℕ
-copied (Done m) = 0 ∷ []
-copied (Refused r) = refusal r
+abbrev pub copied : Result ManifestRow Refusal → List ℕ
+copied (Ok m) = 0 ∷ []
+copied (Err r) = refusal r

@@ -9,16 +9,9 @@ ghost use Rattle.records.specs.Layout.{run, tree_row, tree_runs_laid, tree_views
 ghost use Rattle.copy.specs.Copy.{room_of, no_room, copy_of, copy_at_of};
 
 use emit::{LaidTree, put_borrows, put_name, put_segments, put_tree};
-use measure::{Measured, fits_in, left_of, measure};
-use records::{Fill, Limits, ManifestRow, Name, Refusal, TreeRow};
+use measure::{fits_in, left_of, measure};
+use records::{Fill, Limits, ManifestRow, Place, Refusal, TreeRow};
 use tables::{Window, held};
-
-// The copy's place in the output tables, or why there is none.
-#[derive(Clone, Copy)]
-pub enum Copied {
-    Done(ManifestRow),
-    Refused(Refusal),
-}
 
 // The unsegmented tree, then the segments.
 fn put_trees(
@@ -65,7 +58,7 @@ fn put_trees(
 // The name, then the borrows.
 // inner
 pub fn put_rest(
-    n: Name,
+    n: Option<Place>,
     borrows: &[u64],
     w: Window,
     ids: &[u64],
@@ -74,7 +67,7 @@ pub fn put_rest(
     out_ids: &mut [u64],
     out_pool: &mut [u8],
     c: Fill,
-) -> Name
+) -> Option<Place>
     requires w_in_bounds { (c.borrows + (plus (sum key_fill (name_keys (name_in pool.now n))) (sum borrow_fill (borrows_in borrows.now ids.now pool.now w))).borrows) * 9 ≤ length out_borrows.old }
     requires w_in_bounds_2 { (c.ids + (plus (sum key_fill (name_keys (name_in pool.now n))) (sum borrow_fill (borrows_in borrows.now ids.now pool.now w))).ids) * 2 ≤ length out_ids.old }
     requires w_in_bounds_3 { c.bytes + (plus (sum key_fill (name_keys (name_in pool.now n))) (sum borrow_fill (borrows_in borrows.now ids.now pool.now w))).bytes ≤ length out_pool.old }
@@ -96,7 +89,7 @@ pub fn manifest_row_at(
     m: ManifestRow,
     tree: TreeRow,
     segments: Window,
-    name: Name,
+    name: Option<Place>,
     borrows: Window,
 ) -> ManifestRow
     ensures { result ≡ record { initialized = m.initialized; tree = tree; segments = segments; segment_extractor_name = name; next_wal_sst_id = m.next_wal_sst_id; replay_after_wal_id = m.replay_after_wal_id; last_l0_clock_tick = m.last_l0_clock_tick; last_l0_seq = m.last_l0_seq; recent_snapshot_min_seq = m.recent_snapshot_min_seq; external_dbs = borrows; writer_epoch = m.writer_epoch; compactor_epoch = m.compactor_epoch } }
@@ -123,7 +116,7 @@ pub fn manifest_row(
     m: ManifestRow,
     tree: TreeRow,
     segments: usize,
-    name: Name,
+    name: Option<Place>,
     borrows: usize,
 ) -> ManifestRow
     ensures { result ≡ record { initialized = m.initialized; tree = tree; segments = record { first = 0; count = segments }; segment_extractor_name = name; next_wal_sst_id = m.next_wal_sst_id; replay_after_wal_id = m.replay_after_wal_id; last_l0_clock_tick = m.last_l0_clock_tick; last_l0_seq = m.last_l0_seq; recent_snapshot_min_seq = m.recent_snapshot_min_seq; external_dbs = record { first = 0; count = borrows }; writer_epoch = m.writer_epoch; compactor_epoch = m.compactor_epoch } }
@@ -227,13 +220,13 @@ pub fn copy_at(
     out_ids: &mut [u64],
     out_pool: &mut [u8],
     c: Fill,
-) -> Copied
+) -> Result<ManifestRow, Refusal>
     requires { fits c (room_of (record { segments = out_segments.old; views = out_views.old; runs = out_runs.old; borrows = out_borrows.old; ids = out_ids.old; pool = out_pool.old })) ≡ true }
     ensures { record { answer = result; out = record { segments = out_segments.new; views = out_views.new; runs = out_runs.new; borrows = out_borrows.new; ids = out_ids.new; pool = out_pool.new } } ≡ copy_at_of lim c (record { segments = segments.now; views = views.now; runs = runs.now; borrows = borrows.now; ids = ids.now; pool = pool.now }) m (record { segments = out_segments.old; views = out_views.old; runs = out_runs.old; borrows = out_borrows.old; ids = out_ids.old; pool = out_pool.old }) }
 {
     match measure(lim, segments, views, runs, borrows, ids, pool, m) {
-        Measured::Broken => Copied::Refused(Refusal::Unlawful(1)),
-        Measured::Fills(f) => {
+        None => Err(Refusal::Unlawful(1)),
+        Some(f) => {
             let room = Fill {
                 segments: out_segments.len() / 12,
                 views: out_views.len() / 16,
@@ -244,9 +237,9 @@ pub fn copy_at(
             };
             let left = left_of(room, c);
             if no_room(lim, left, f) {
-                return Copied::Refused(Refusal::NoRoom);
+                return Err(Refusal::NoRoom);
             }
-            Copied::Done(put_manifest(
+            Ok(put_manifest(
                 segments,
                 views,
                 runs,
@@ -282,7 +275,7 @@ pub fn canonical_copy(
     out_borrows: &mut [u64],
     out_ids: &mut [u64],
     out_pool: &mut [u8],
-) -> Copied
+) -> Result<ManifestRow, Refusal>
     ensures { record { answer = result; out = record { segments = out_segments.new; views = out_views.new; runs = out_runs.new; borrows = out_borrows.new; ids = out_ids.new; pool = out_pool.new } } ≡ copy_of lim (record { segments = segments.now; views = views.now; runs = runs.now; borrows = borrows.now; ids = ids.now; pool = pool.now }) m (record { segments = out_segments.old; views = out_views.old; runs = out_runs.old; borrows = out_borrows.old; ids = out_ids.old; pool = out_pool.old }) }
 {
     let none = Fill {

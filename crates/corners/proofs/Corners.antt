@@ -1,4 +1,5 @@
 -- THE MARKED CORNERS hold.
+use Rattle.std.specs.Prelude.{Err, Ok, Result}
 use mathlib.Core.Path.{◌≡◌, refl, ap, ◌∙◌}
 use Prim.Native.Nat.{ℕ}
 use borrow.Author.Tests.{eq-eqb}
@@ -26,22 +27,21 @@ use Rattle.measure.specs.Placed.{views_placed, runs_placed, tree_placed, segment
 use Rattle.measure.specs.Measure.{l1_of}
 use Rattle.lawful.specs.Law.{l2_of, l3_of, l4_of, l5_of}
 use Rattle.lawful.specs.Judge.{judged_of}
-use Rattle.lawful.specs.declared.Judged.TheVariants.{Lawful}
 use Rattle.segments.specs.Prefixes.{prefixes}
 use Rattle.segments.specs.Refuses.{refuses5}
 use Rattle.segments.specs.Lookup.{index_of}
 use Rattle.segments.specs.Place.{place_of, extended, begun}
 use Rattle.segments.specs.Select.{first_of, past_of, chosen_of, selected_of, selected}
-use Rattle.segments.specs.declared.Selected.{Selected}
-use Rattle.segments.specs.declared.Selected.TheVariants.{Refused}
 use Rattle.segments.specs.Insert.{new_segment, with_segments, inserted_of}
 use Rattle.insert.specs.Insert.{insert_of}
 use Rattle.merge.specs.Tree.{tree_merge}
 use Rattle.corners.specs.Corners.{held, Selects, Corners}
+use Rattle.segments.specs.declared.Selected.{Selected}
+use Rattle.records.specs.declared.Refusal.{Refusal}
 
 -- what is left of selection once its manifest is lawful and its bounds are within the limit
-abbrev answered : Edges → Selected
-answered r = pick (refuses5 r) (Refused EmptyRange) (chosen_of r held)
+abbrev answered : Edges → Result Selected Refusal
+answered r = pick (refuses5 r) (Err EmptyRange) (chosen_of r held)
 
 selects : (s e : Edge) (x : List ℕ) → selected (answered (record { start = s; end = e })) ≡ x → Selects s e x
 unfolding selected_of
@@ -72,6 +72,6 @@ corners =
 abbrev pub some_manifest : Manifest
 some_manifest = with_segments new_manifest (new_segment (97 ∷ 47 ∷ []) ∷ new_segment (98 ∷ 47 ∷ []) ∷ new_segment (99 ∷ 47 ∷ []) ∷ [])
 
-pub some_lawful : (judged_of limits01 (layout some_manifest) (manifest_row some_manifest) ≡ Lawful) × (prefixes (manifest_in (layout some_manifest) (manifest_row some_manifest)).segments ≡ held)
+pub some_lawful : (judged_of limits01 (layout some_manifest) (manifest_row some_manifest) ≡ Ok tt) × (prefixes (manifest_in (layout some_manifest) (manifest_row some_manifest)).segments ≡ held)
 unfolding judged_of l1_of placed views_placed runs_placed tree_placed segments_placed segment_placed borrows_placed held_of layout tree_row segment_row manifest_row views_laid runs_laid runs_views_laid tree_views_laid tree_runs_laid segments_laid segments_views_laid segments_runs_laid borrows_laid tree_bytes segment_bytes segment_words tree_words segment_at tree_at part_of manifest_in tree_in views_in runs_in segment_in segments_in borrows_in within limits01 fits manifest_fill tree_fill segment_fill all_views all_runs l2_of l3_of l4_of l5_of order_of begins_of
 some_lawful = (refl, refl)

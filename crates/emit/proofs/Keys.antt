@@ -1,4 +1,5 @@
 -- A key that is there or not, laid where the one before it ends. Assumes nothing.
+use Rattle.std.specs.Prelude.{None, Option, Some}
 use mathlib.Core.Path.{◌≡◌, refl, sym, ap}
 use mathlib.Core.List.{List, [], ◌∷◌, ◌++◌, append-nil, append_assoc}
 use Prim.Native.Nat.{ℕ, ◌+◌, ◌-◌, ◌≤◌}
@@ -16,10 +17,6 @@ use Rattle.records.specs.Decode.{bytes_in, last_in, seen_in, view_in}
 use Rattle.records.specs.Fill.{last_keys, edge_keys, seen_keys}
 use Rattle.records.specs.Layout.{run, last_row, bound_row, visible_row, view_row, view_bytes}
 use Rattle.records.specs.declared.Place.{Place}
-use Rattle.records.specs.declared.Last.{Last}
-use Rattle.records.specs.declared.Last.TheVariants.{Unknown, Known}
-use Rattle.records.specs.declared.Visible.{Visible}
-use Rattle.records.specs.declared.Visible.TheVariants.{All, Only}
 use Rattle.emit.specs.declared.LaidLast.{LaidLast}
 use Rattle.emit.specs.declared.LaidVisible.{LaidVisible}
 use Rattle.emit.specs.declared.LaidView.{LaidView}
@@ -38,22 +35,22 @@ module _ {L : Type 0} (from : ℕ) (d : List ℕ) where
       rw (append-nil key, n, e) (refl, w)
 
 module _ (pool d : List ℕ) (from : ℕ) where
-  abbrev LastLaid : Last → List ℕ → LaidLast → Type 0
+  abbrev LastLaid : Option Place → List ℕ → LaidLast → Type 0
   LastLaid l d' r = (r ≡ record { last = last_row from (last_in pool l); past = from + length (run (last_keys (last_in pool l))) }) × (d' ≡ write d from (run (last_keys (last_in pool l))))
 
   abbrev BoundLaid : Bound → List ℕ → LaidBound → Type 0
   BoundLaid b d' r = (r ≡ record { bound = bound_row from (edge_of pool b); past = from + length (run (edge_keys (edge_of pool b))) }) × (d' ≡ write d from (run (edge_keys (edge_of pool b))))
 
-  pub last_unknown : (l : Last) → l ≡ Unknown → LastLaid l d (record { last = Unknown; past = from })
-  last_unknown l t = rw t (none from d (λ n. record { last = Unknown; past = n }))
+  pub last_unknown : (l : Option Place) → l ≡ None → LastLaid l d (record { last = None; past = from })
+  last_unknown l t = rw t (none from d (λ n. record { last = None; past = n }))
 
   pub bound_unbounded : (b : Bound) → b ≡ Unbounded → BoundLaid b d (record { bound = Unbounded; past = from })
   bound_unbounded b t = rw t (none from d (λ n. record { bound = Unbounded; past = n }))
 
   module _ (past : ℕ) (d' : List ℕ) where
-    pub last_known : (l : Last) (p : Place) → l ≡ Known p → past ≡ from + length (bytes_in pool p) → d' ≡ write d from (bytes_in pool p)
-        → LastLaid l d' (record { last = Known (record { at = from; len = past - from }); past = past })
-    last_known l p t e w = rw t (some from d (λ k n. record { last = Known (record { at = from; len = k }); past = n }) past d' (bytes_in pool p) e w)
+    pub last_known : (l : Option Place) (p : Place) → l ≡ Some p → past ≡ from + length (bytes_in pool p) → d' ≡ write d from (bytes_in pool p)
+        → LastLaid l d' (record { last = Some (record { at = from; len = past - from }); past = past })
+    last_known l p t e w = rw t (some from d (λ k n. record { last = Some (record { at = from; len = k }); past = n }) past d' (bytes_in pool p) e w)
 
     pub bound_included : (b : Bound) (i n : ℕ) → b ≡ Included i n → past ≡ from + length (part_of pool i n) → d' ≡ write d from (part_of pool i n)
         → BoundLaid b d' (record { bound = Included from (past - from); past = past })
@@ -65,7 +62,7 @@ module _ (pool d : List ℕ) (from : ℕ) where
 
 -- room for the keys is room for the one
 module _ (pool d : List ℕ) (from : ℕ) where
-  pub last_room : (l : Last) (p : Place) → l ≡ Known p → from + length (run (last_keys (last_in pool l))) ≤ length d → from + length (bytes_in pool p) ≤ length d
+  pub last_room : (l : Option Place) (p : Place) → l ≡ Some p → from + length (run (last_keys (last_in pool l))) ≤ length d → from + length (bytes_in pool p) ≤ length d
   last_room l p t h = rw (append-nil (bytes_in pool p)) at (rw t at h)
 
   pub included_room : (b : Bound) (i n : ℕ) → b ≡ Included i n → from + length (run (edge_keys (edge_of pool b))) ≤ length d → from + length (part_of pool i n) ≤ length d
@@ -77,13 +74,13 @@ module _ (pool d : List ℕ) (from : ℕ) where
 -- ---- two keys of a range, three parts of a view: the same by `then`
 
 module _ (pool d : List ℕ) (from : ℕ) where
-  abbrev VisibleLaid : Visible → List ℕ → LaidVisible → Type 0
+  abbrev VisibleLaid : Option Range → List ℕ → LaidVisible → Type 0
   VisibleLaid x d' r = (r ≡ record { visible = visible_row from (seen_in pool x); past = from + length (run (seen_keys (seen_in pool x))) }) × (d' ≡ write d from (run (seen_keys (seen_in pool x))))
 
-  pub visible_all : (x : Visible) → x ≡ All → VisibleLaid x d (record { visible = All; past = from })
-  visible_all x t = rw t (none from d (λ n. record { visible = All; past = n }))
+  pub visible_all : (x : Option Range) → x ≡ None → VisibleLaid x d (record { visible = None; past = from })
+  visible_all x t = rw t (none from d (λ n. record { visible = None; past = n }))
 
-  module _ (x : Visible) (r : Range) (t : x ≡ Only r) (room : from + length (run (seen_keys (seen_in pool x))) ≤ length d) where
+  module _ (x : Option Range) (r : Range) (t : x ≡ Some r) (room : from + length (run (seen_keys (seen_in pool x))) ≤ length d) where
     abbrev starts : List ℕ
     starts = run (edge_keys (edge_of pool r.start))
 
@@ -102,7 +99,7 @@ module _ (pool d : List ℕ) (from : ℕ) where
     pub visible_only : (d₁ d₂ : List ℕ) (s e : LaidBound)
         → s ≡ record { bound = bound_row from (edge_of pool r.start); past = from + length starts } → d₁ ≡ write d from starts
         → e ≡ record { bound = bound_row s.past (edge_of pool r.end); past = s.past + length ends } → d₂ ≡ write d₁ s.past ends
-        → VisibleLaid x d₂ (record { visible = Only (record { start = s.bound; end = e.bound }); past = e.past })
+        → VisibleLaid x d₂ (record { visible = Some (record { start = s.bound; end = e.bound }); past = e.past })
     visible_only d₁ d₂ s e p w q v = (
       rw (q, p, both, length-append starts ends, t) (rw add_assoc refl),
       rw both (then d d₁ d₂ from s.past starts ends (omega (arith, start_room)) w (rw p refl) v),

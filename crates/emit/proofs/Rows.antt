@@ -1,4 +1,5 @@
 -- One record of each kind: its row and bytes in place, and the cursor past it. Assumes nothing.
+use Rattle.std.specs.Prelude.{None, Option, Some}
 use mathlib.Core.Path.{◌≡◌, refl, sym, ap, ◌∙◌}
 use mathlib.Core.List.{List, append-nil}
 use Prim.Native.Nat.{ℕ, ◌+◌, ◌-◌, ◌*◌, ◌≤◌}
@@ -21,8 +22,6 @@ use Rattle.records.proofs.Sums.{fill_same, plus_assoc, plus_empty}
 use Rattle.records.proofs.Laid.{views, runs, ids, pool, at}
 use Rattle.emit.proofs.Laid.{put_then, put_skip}
 use Rattle.records.specs.declared.Place.{Place}
-use Rattle.records.specs.declared.Name.{Name}
-use Rattle.records.specs.declared.Name.TheVariants.{Absent, Named}
 use Rattle.records.specs.declared.TreeRow.{TreeRow}
 use Rattle.emit.specs.declared.LaidName.{LaidName}
 use Rattle.emit.specs.declared.LaidTree.{LaidTree}
@@ -131,19 +130,19 @@ ids_past q c xs e = e ∙ ap (λ (f : Fill). plus c f) (ids_fill xs)
 
 -- ---- the name
 
-module _ (p : List ℕ) (c : Fill) (d : List ℕ) (n : Name) where
+module _ (p : List ℕ) (c : Fill) (d : List ℕ) (n : Option Place) where
   abbrev NameLaid : LaidName → List ℕ → Type 0
   NameLaid q d' = (q ≡ record { name = name_row c.bytes (name_in p n); past = plus c (sum key_fill (name_keys (name_in p n))) }) × (d' ≡ write d c.bytes (run (name_keys (name_in p n))))
 
-  pub name_absent : n ≡ Absent → NameLaid (record { name = Absent; past = c }) d
-  name_absent t = rw t (ap (λ (f : Fill). record { name = Absent; past = f }) (sym (plus_empty c)), sym (write_none d c.bytes))
+  pub name_absent : n ≡ None → NameLaid (record { name = None; past = c }) d
+  name_absent t = rw t (ap (λ (f : Fill). record { name = None; past = f }) (sym (plus_empty c)), sym (write_none d c.bytes))
 
-  module _ (k : Place) (t : n ≡ Named k) where
+  module _ (k : Place) (t : n ≡ Some k) where
     pub name_room : c.bytes + (sum key_fill (name_keys (name_in p n))).bytes ≤ length d → c.bytes + length (bytes_in p k) ≤ length d
     name_room h = let r = rw t at h in omega arith
 
     pub name_named : (past : ℕ) (d' : List ℕ) → past ≡ c.bytes + length (bytes_in p k) → d' ≡ write d c.bytes (bytes_in p k)
-        → NameLaid (record { name = Named (record { at = c.bytes; len = past - c.bytes }); past = record { segments = c.segments; views = c.views; runs = c.runs; borrows = c.borrows; ids = c.ids; bytes = past } }) d'
+        → NameLaid (record { name = Some (record { at = c.bytes; len = past - c.bytes }); past = record { segments = c.segments; views = c.views; runs = c.runs; borrows = c.borrows; ids = c.ids; bytes = past } }) d'
     name_named past d' e w =
         let m : past - c.bytes ≡ length (bytes_in p k) = omega arith in
         rw (t, append-nil (bytes_in p k), m, e) (simp add-zero, w)

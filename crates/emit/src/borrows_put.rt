@@ -10,8 +10,8 @@ ghost use Rattle.records.specs.Layout.{run, borrow_row, borrow_ids, borrow_path,
 use crate::LaidName;
 use crate::views_put::put_part;
 use ids::SstId;
-use records::{BorrowRow, Fill, Name, Place, borrow_at, borrow_words, id_at, id_words};
-use tables::{Window, held, put_words};
+use records::{BorrowRow, Fill, Place, borrow_at, borrow_words, id_at, id_words};
+use tables::{Window, held, put};
 
 // Appends an id.
 // inner
@@ -21,7 +21,7 @@ pub fn put_id(x: SstId, out_ids: &mut [u64], c: Fill) -> Fill
     ensures out_ids_after { out_ids.new ≡ write out_ids.old (c.ids * 2) (id_words x) }
 {
     let row = id_words(x);
-    put_words(&row, out_ids, c.ids * 2);
+    put(&row, out_ids, c.ids * 2);
     Fill {
         segments: c.segments,
         views: c.views,
@@ -52,10 +52,8 @@ pub fn put_ids(ids: &[u64], w: Window, out_ids: &mut [u64], c: Fill) -> Fill
     let n = held(w, ids.len() / 2);
     let first = w.first;
     let mut to = c;
-    let mut k = 0;
-    while k < n {
+    for k in 0..n {
         to = put_id_at(ids, first + k, out_ids, to);
-        k += 1;
     }
     to
 }
@@ -67,7 +65,7 @@ pub fn put_borrow_row(b: BorrowRow, out_borrows: &mut [u64], i: usize)
     ensures { out_borrows.new ≡ write out_borrows.old (i * 9) (borrow_words b) }
 {
     let row = borrow_words(b);
-    put_words(&row, out_borrows, i * 9);
+    put(&row, out_borrows, i * 9);
 }
 
 // Appends a borrow and its ids.
@@ -171,8 +169,7 @@ pub fn put_borrows(
     let n = held(w, borrows.len() / 9);
     let first = w.first;
     let mut to = c;
-    let mut k = 0;
-    while k < n {
+    for k in 0..n {
         to = put_borrow_at(
             borrows,
             first + k,
@@ -183,7 +180,6 @@ pub fn put_borrows(
             out_pool,
             to,
         );
-        k += 1;
     }
     to
 }
@@ -192,20 +188,20 @@ pub fn put_borrows(
 
 // Appends the name, if there is one.
 // inner
-pub fn put_name(n: Name, pool: &[u8], out_pool: &mut [u8], c: Fill) -> LaidName
+pub fn put_name(n: Option<Place>, pool: &[u8], out_pool: &mut [u8], c: Fill) -> LaidName
     requires { c.bytes + (sum key_fill (name_keys (name_in pool.now n))).bytes ≤ length out_pool.old }
     ensures value { result ≡ record { name = name_row c.bytes (name_in pool.now n); past = plus c (sum key_fill (name_keys (name_in pool.now n))) } }
     ensures out_pool_after { out_pool.new ≡ write out_pool.old c.bytes (run (name_keys (name_in pool.now n))) }
 {
     match n {
-        Name::Absent => LaidName {
-            name: Name::Absent,
+        None => LaidName {
+            name: None,
             past: c,
         },
-        Name::Named(p) => {
+        Some(p) => {
             let past = put_part(p.at, p.len, pool, out_pool, c.bytes);
             LaidName {
-                name: Name::Named(Place {
+                name: Some(Place {
                     at: c.bytes,
                     len: past - c.bytes,
                 }),

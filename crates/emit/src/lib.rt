@@ -8,15 +8,15 @@ mod segments_put;
 mod views_put;
 
 pub use borrows_put::{put_borrow, put_borrow_row, put_borrows, put_id, put_ids, put_name};
-use keys::Bound;
-use records::{Fill, Last, Name, TreeRow, ViewRow, Visible};
+use keys::{Bound, Range};
+use records::{Fill, Place, TreeRow, ViewRow};
 pub use runs_put::{put_run, put_run_row, put_runs, put_tree, tree_row};
 pub use segments_put::{put_prefix, put_segment, put_segment_row, put_segments};
 pub use views_put::{put_view, put_views};
 
 #[derive(Clone, Copy)]
 pub struct LaidLast {
-    pub last: Last,
+    pub last: Option<Place>,
     pub past: usize,
 }
 
@@ -28,7 +28,7 @@ pub struct LaidBound {
 
 #[derive(Clone, Copy)]
 pub struct LaidVisible {
-    pub visible: Visible,
+    pub visible: Option<Range>,
     pub past: usize,
 }
 
@@ -46,6 +46,6 @@ pub struct LaidTree {
 
 #[derive(Clone, Copy)]
 pub struct LaidName {
-    pub name: Name,
+    pub name: Option<Place>,
     pub past: Fill,
 }

@@ -9,9 +9,9 @@ ghost use Rattle.records.specs.Layout.{run, views_laid, run_row, run_bytes, runs
 
 use crate::LaidTree;
 use crate::views_put::put_views;
-use ids::{SstMark, ViewMark};
+use ids::{SstId, ViewId};
 use records::{Fill, RunRow, TreeRow, run_at, run_words};
-use tables::{Window, held, put_words};
+use tables::{Window, held, put};
 
 // Appends the row of a run whose views were laid from `c` to `to`.
 // inner
@@ -28,7 +28,7 @@ pub fn put_run_row(id: u64, out_runs: &mut [u64], c: Fill, to: Fill) -> Fill
         },
     };
     let row = run_words(run);
-    put_words(&row, out_runs, to.runs * 3);
+    put(&row, out_runs, to.runs * 3);
     Fill {
         segments: to.segments,
         views: to.views,
@@ -94,7 +94,8 @@ fn put_run_at(
     )
 }
 
-// Appends the runs of a window, with their views.
+// Appends the runs of a window, with their views. `put_borrows` goes the same way over other tables; one loop for both would be
+// handed the tables, the fill and the row's own function, and say no more than the two do.
 // inner
 pub fn put_runs(
     runs: &[u64],
@@ -117,8 +118,7 @@ pub fn put_runs(
     let n = held(w, runs.len() / 3);
     let first = w.first;
     let mut to = c;
-    let mut k = 0;
-    while k < n {
+    for k in 0..n {
         to = put_run_at(
             runs,
             first + k,
@@ -129,7 +129,6 @@ pub fn put_runs(
             out_pool,
             to,
         );
-        k += 1;
     }
     to
 }
@@ -138,7 +137,7 @@ pub fn put_runs(
 
 // The row of a tree whose L0 was laid from `c` to `a`, and whose runs from there to `e`.
 // inner
-pub fn tree_row(view: ViewMark, sst: SstMark, c: Fill, a: Fill, e: Fill) -> TreeRow
+pub fn tree_row(view: Option<ViewId>, sst: Option<SstId>, c: Fill, a: Fill, e: Fill) -> TreeRow
     requires { (c.views ≤ a.views) × (c.runs ≤ e.runs) }
     ensures { result ≡ record { view = view; sst = sst; l0 = record { first = c.views; count = a.views - c.views }; compacted = record { first = c.runs; count = e.runs - c.runs } } }
 {

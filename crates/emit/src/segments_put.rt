@@ -10,7 +10,7 @@ ghost use Rattle.records.specs.Layout.{tree_views_laid, tree_runs_laid, past_pre
 use crate::runs_put::put_tree;
 use crate::views_put::put_part;
 use records::{Fill, Place, SegmentRow, TreeRow, segment_at, segment_words};
-use tables::{Window, held, put_words};
+use tables::{Window, held, put};
 
 // Appends the prefix of a segment. Its tree comes next, then its row.
 // inner
@@ -38,7 +38,7 @@ pub fn put_segment_row(prefix: Place, tree: TreeRow, out_segments: &mut [u64], i
 {
     let segment = SegmentRow { prefix, tree };
     let row = segment_words(segment);
-    put_words(&row, out_segments, i * 12);
+    put(&row, out_segments, i * 12);
 }
 
 // Appends a segment.
@@ -141,8 +141,7 @@ pub fn put_segments(
     let n = held(w, segments.len() / 12);
     let first = w.first;
     let mut to = c;
-    let mut k = 0;
-    while k < n {
+    for k in 0..n {
         to = put_segment_at(
             segments,
             first + k,
@@ -155,7 +154,6 @@ pub fn put_segments(
             out_pool,
             to,
         );
-        k += 1;
     }
     to
 }

@@ -10,8 +10,8 @@ ghost use Rattle.records.specs.Layout.{run, last_row, bound_row, visible_row, vi
 
 use crate::{LaidBound, LaidLast, LaidView, LaidVisible};
 use keys::{Bound, Range, part};
-use records::{Fill, Last, Place, ViewRow, Visible, view_at, view_words};
-use tables::{Window, held, put_bytes, put_words};
+use records::{Fill, Place, ViewRow, view_at, view_words};
+use tables::{Window, held, put};
 
 // The `len` bytes from `from` on; none where they lie outside.
 pub fn put_part(from: usize, len: usize, pool: &[u8], out_pool: &mut [u8], at: usize) -> usize
@@ -19,23 +19,23 @@ pub fn put_part(from: usize, len: usize, pool: &[u8], out_pool: &mut [u8], at: u
     ensures value { result ≡ at + length (part_of pool.now from len) }
     ensures out_pool_after { out_pool.new ≡ write out_pool.old at (part_of pool.now from len) }
 {
-    put_bytes(part(pool, from, len), out_pool, at)
+    put(part(pool, from, len), out_pool, at)
 }
 
-fn put_last(l: Last, pool: &[u8], out_pool: &mut [u8], at: usize) -> LaidLast
+fn put_last(l: Option<Place>, pool: &[u8], out_pool: &mut [u8], at: usize) -> LaidLast
     requires { at + length (run (last_keys (last_in pool.now l))) ≤ length out_pool.old }
     ensures value { result ≡ record { last = last_row at (last_in pool.now l); past = at + length (run (last_keys (last_in pool.now l))) } }
     ensures out_pool_after { out_pool.new ≡ write out_pool.old at (run (last_keys (last_in pool.now l))) }
 {
     match l {
-        Last::Unknown => LaidLast {
-            last: Last::Unknown,
+        None => LaidLast {
+            last: None,
             past: at,
         },
-        Last::Known(p) => {
+        Some(p) => {
             let past = put_part(p.at, p.len, pool, out_pool, at);
             LaidLast {
-                last: Last::Known(Place { at, len: past - at }),
+                last: Some(Place { at, len: past - at }),
                 past,
             }
         }
@@ -69,17 +69,17 @@ fn put_bound(b: Bound, pool: &[u8], out_pool: &mut [u8], at: usize) -> LaidBound
     }
 }
 
-fn put_visible(x: Visible, pool: &[u8], out_pool: &mut [u8], at: usize) -> LaidVisible
+fn put_visible(x: Option<Range>, pool: &[u8], out_pool: &mut [u8], at: usize) -> LaidVisible
     requires { at + length (run (seen_keys (seen_in pool.now x))) ≤ length out_pool.old }
     ensures value { result ≡ record { visible = visible_row at (seen_in pool.now x); past = at + length (run (seen_keys (seen_in pool.now x))) } }
     ensures out_pool_after { out_pool.new ≡ write out_pool.old at (run (seen_keys (seen_in pool.now x))) }
 {
     match x {
-        Visible::All => LaidVisible {
-            visible: Visible::All,
+        None => LaidVisible {
+            visible: None,
             past: at,
         },
-        Visible::Only(r) => {
+        Some(r) => {
             let s = r.start;
             let e = r.end;
             let start = put_bound(s, pool, out_pool, at);
@@ -87,7 +87,7 @@ fn put_visible(x: Visible, pool: &[u8], out_pool: &mut [u8], at: usize) -> LaidV
             let from = start.bound;
             let to = end.bound;
             LaidVisible {
-                visible: Visible::Only(Range {
+                visible: Some(Range {
                     start: from,
                     end: to,
                 }),
@@ -147,7 +147,7 @@ pub fn put_view(
     let laid = put_keys(v, pool, out_pool, c.bytes);
     let view = laid.view;
     let row = view_words(view);
-    put_words(&row, out_views, c.views * 16);
+    put(&row, out_views, c.views * 16);
     Fill {
         segments: c.segments,
         views: c.views + 1,
@@ -196,10 +196,8 @@ pub fn put_views(
     let n = held(w, views.len() / 16);
     let first = w.first;
     let mut to = c;
-    let mut k = 0;
-    while k < n {
+    for k in 0..n {
         to = put_view_at(views, first + k, pool, out_views, out_pool, to);
-        k += 1;
     }
     to
 }

@@ -1,4 +1,5 @@
 -- Which answer insert gives, by its tests. Assumes nothing.
+use Rattle.std.specs.Prelude.{Err, None, Ok, Option, Result, Some}
 use Prim.Native.Nat.{ℕ}
 use mathlib.Core.Path.{◌≡◌, refl, sym, ap, ◌∙◌}
 use mathlib.Core.Bool.{Bool, true, false, not, true≢false, ◌&&◌, ◌||◌}
@@ -19,11 +20,8 @@ use Rattle.records.specs.declared.Refusal.TheVariants.{Unlawful, OverLimit, Nest
 use Rattle.records.proofs.Stair.{decode_over}
 use Rattle.measure.specs.Walk.{add_of}
 use Rattle.measure.specs.Within.{no_room}
-use Rattle.measure.specs.declared.Measured.{Measured}
-use Rattle.measure.specs.declared.Measured.TheVariants.{Broken, Fills}
 use Rattle.measure.proofs.Fits.{under, says_fits}
 use Rattle.lawful.specs.Judge.{judged_of}
-use Rattle.lawful.specs.declared.Judged.TheVariants.{Lawful, Breaks}
 use Rattle.copy.specs.Copy.{room_of, laid_over}
 use Rattle.segments.specs.Prefixes.{prefixes}
 use Rattle.segments.specs.Refuses.{prefix_over}
@@ -31,47 +29,44 @@ use Rattle.segments.specs.Lookup.{index_of}
 use Rattle.segments.specs.Place.{place_of, refuses3, conflict_of}
 use Rattle.segments.specs.Insert.{holds_of, Entry, found, entered, refused, inserted_of}
 use Rattle.insert.specs.Insert.{entered_at, new_fill, laid_entry}
-use Rattle.insert.specs.declared.Inserted.{Inserted}
 use Rattle.insert.specs.declared.Inserted.TheVariants as lay
 use Rattle.insert.proofs.Entering.{with_fill}
 use Rattle.manifest_write.specs.Bytes.{manifest_bytes}
 use Rattle.manifest_write.specs.Answer.{put_of, Outcome as Put}
-use Rattle.manifest_write.specs.declared.Written.{Written}
-use Rattle.manifest_write.specs.declared.Written.TheVariants as write
 use Rattle.manifest_read.specs.Answer.{work_room}
 use Rattle.encoded.specs.Encoded.{refused as unread, encoded_of, long_of}
 use Rattle.encoded.specs.InTables.{rows_in}
 use Rattle.encoded.specs.Insert.{Outcome, refused_to, wrote, entered_to, inserted_in, insert_to}
 use Rattle.encoded.specs.Steps.{laid_to, both_fit}
-use Rattle.encoded.specs.declared.InsertedTo.TheVariants.{Found, Entered, Refused}
-use Rattle.encoded.specs.declared.Rows.TheVariants.{Are}
+use Rattle.encoded.specs.declared.InsertedTo.TheVariants.{Found, Entered}
+use Rattle.insert.specs.declared.Inserted.{Inserted}
 
 -- ---- room for one segment more
 
-module _ (lim : Limits) (room c more : Fill) (s : Measured) (q : s ≡ add_of lim.fill c more) where
-  pub lacks_all : s ≡ Broken → true ≡ no_room lim room (plus c more)
+module _ (lim : Limits) (room c more : Fill) (s : Option Fill) (q : s ≡ add_of lim.fill c more) where
+  pub lacks_all : s ≡ None → true ≡ no_room lim room (plus c more)
   unfolding add_of no_room
   lacks_all h = go (fits (plus c more) lim.fill) refl (sym h ∙ q)
     where
-      go : (b : Bool) → fits (plus c more) lim.fill ≡ b → Broken ≡ pick b (Fills (plus c more)) Broken → true ≡ no_room lim room (plus c more)
+      go : (b : Bool) → fits (plus c more) lim.fill ≡ b → None ≡ pick b (Some (plus c more)) None → true ≡ no_room lim room (plus c more)
       go true e k = let z : ◌≡◌ {A = ℕ} 0 1 = cc in absurd (omega arith)
       go false e k = rw e
 
-  pub lacks_some : (f : Fill) → s ≡ Fills f → (r : Bool) → r ≡ fits f room → not r ≡ no_room lim room (plus c more)
+  pub lacks_some : (f : Fill) → s ≡ Some f → (r : Bool) → r ≡ fits f room → not r ≡ no_room lim room (plus c more)
   unfolding add_of no_room
   lacks_some f h r k = go (fits (plus c more) lim.fill) refl (sym h ∙ q)
     where
-      go : (b : Bool) → fits (plus c more) lim.fill ≡ b → Fills f ≡ pick b (Fills (plus c more)) Broken → not r ≡ no_room lim room (plus c more)
+      go : (b : Bool) → fits (plus c more) lim.fill ≡ b → Some f ≡ pick b (Some (plus c more)) None → not r ≡ no_room lim room (plus c more)
       go true e j = let g : f ≡ plus c more = cc in rw (e, k, g)
       go false e j = let z : ◌≡◌ {A = ℕ} 0 1 = cc in absurd (omega arith)
 
 -- ---- the manifest that the prefix entered, written
 
-module _ (i : ℕ) (y : Put) (w : Written) (out : List ℕ) (e : record { answer = w; out = out } ≡ y) where
-  pub wrote_done : (n : ℕ) → w ≡ write.Done n → record { answer = Entered i n; out = out } ≡ wrote i y
-  wrote_done n h = let a : ◌≡◌ {A = Outcome} (record { answer = Entered i n; out = out }) (wrote i (record { answer = w; out = out })) = rw h in a ∙ ap (wrote i) e
+module _ (i : ℕ) (y : Put) (w : Result ℕ Refusal) (out : List ℕ) (e : record { answer = w; out = out } ≡ y) where
+  pub wrote_done : (n : ℕ) → w ≡ Ok n → record { answer = Ok (Entered i n); out = out } ≡ wrote i y
+  wrote_done n h = let a : ◌≡◌ {A = Outcome} (record { answer = Ok (Entered i n); out = out }) (wrote i (record { answer = w; out = out })) = rw h in a ∙ ap (wrote i) e
 
-  pub wrote_refused : (r : Refusal) → w ≡ write.Refused r → record { answer = Refused r; out = out } ≡ wrote i y
+  pub wrote_refused : (r : Refusal) → w ≡ Err r → record { answer = Err r; out = out } ≡ wrote i y
   wrote_refused r h = let a : ◌≡◌ {A = Outcome} (refused_to out r) (wrote i (record { answer = w; out = out })) = rw h in a ∙ ap (wrote i) e
 
 -- ---- what another room changes, where that of the tables is no less than L1
@@ -116,23 +111,23 @@ narrowed lim room big m p w =
 -- ---- from the answer on tables
 
 module _ (o : Lent) (out : List ℕ) (full : Bool) where
-  narrow_found : (i : ℕ) (e : Entry) → lay.Found i ≡ (laid_entry o e).answer → record { answer = Found i; out = out } ≡ entered_to out (narrow full e)
+  narrow_found : (i : ℕ) (e : Entry) → Ok (lay.Found i) ≡ (laid_entry o e).answer → record { answer = Ok (Found i); out = out } ≡ entered_to out (narrow full e)
   narrow_found i (found j) k = let g : i ≡ j = cc in rw g
   narrow_found i (entered j n) k = let z : ◌≡◌ {A = ℕ} 0 1 = cc in absurd (omega arith)
   narrow_found i (refused r) k = let z : ◌≡◌ {A = ℕ} 0 1 = cc in absurd (omega arith)
 
-  narrow_refused : (x : Refusal) (e : Entry) → lay.Refused x ≡ (laid_entry o e).answer → refused_to out x ≡ entered_to out (narrow full e)
+  narrow_refused : (x : Refusal) (e : Entry) → Err x ≡ (laid_entry o e).answer → refused_to out x ≡ entered_to out (narrow full e)
   narrow_refused x (found j) k = let z : ◌≡◌ {A = ℕ} 0 1 = cc in absurd (omega arith)
   narrow_refused x (entered j n) k = let z : ◌≡◌ {A = ℕ} 0 1 = cc in absurd (omega arith)
   narrow_refused x (refused r) k = let g : x ≡ r = cc in rw g
 
   module _ (i : ℕ) (row : ManifestRow) where
-    narrow_full : (e : Entry) → lay.Entered i row ≡ (laid_entry o e).answer → full ≡ true → refused_to out NoRoom ≡ entered_to out (narrow full e)
+    narrow_full : (e : Entry) → Ok (lay.Entered i row) ≡ (laid_entry o e).answer → full ≡ true → refused_to out NoRoom ≡ entered_to out (narrow full e)
     narrow_full (found j) k t = let z : ◌≡◌ {A = ℕ} 0 1 = cc in absurd (omega arith)
     narrow_full (entered j n) k t = rw t
     narrow_full (refused r) k t = let z : ◌≡◌ {A = ℕ} 0 1 = cc in absurd (omega arith)
 
-    narrow_put : (l : Lent) (e : Entry) → lay.Entered i row ≡ (laid_entry o e).answer → l ≡ (laid_entry o e).out → full ≡ false → wrote i (put_of (manifest_bytes (manifest_in l row)) out) ≡ entered_to out (narrow full e)
+    narrow_put : (l : Lent) (e : Entry) → Ok (lay.Entered i row) ≡ (laid_entry o e).answer → l ≡ (laid_entry o e).out → full ≡ false → wrote i (put_of (manifest_bytes (manifest_in l row)) out) ≡ entered_to out (narrow full e)
     narrow_put l (found j) k d t = let z : ◌≡◌ {A = ℕ} 0 1 = cc in absurd (omega arith)
     narrow_put l (entered j n) k d t =
         let g : i ≡ j = cc k in
@@ -141,27 +136,27 @@ module _ (o : Lent) (out : List ℕ) (full : Bool) where
         rw (t, b, g)
     narrow_put l (refused r) k d t = let z : ◌≡◌ {A = ℕ} 0 1 = cc in absurd (omega arith)
 
-module _ (lim : Limits) (room : Fill) (m : Manifest) (p : List ℕ) (o : Lent) (out : List ℕ) (r : Inserted) (l : Lent) (q : record { answer = r; out = l } ≡ laid_entry o (inserted_of lim (room_of o) m p)) (w : fits lim.fill (room_of o) ≡ true) where
-  told : (x : Inserted) → r ≡ x → x ≡ (laid_entry o (inserted_of lim (room_of o) m p)).answer
+module _ (lim : Limits) (room : Fill) (m : Manifest) (p : List ℕ) (o : Lent) (out : List ℕ) (r : Result Inserted Refusal) (l : Lent) (q : record { answer = r; out = l } ≡ laid_entry o (inserted_of lim (room_of o) m p)) (w : fits lim.fill (room_of o) ≡ true) where
+  told : (x : Result Inserted Refusal) → r ≡ x → x ≡ (laid_entry o (inserted_of lim (room_of o) m p)).answer
   told x h = sym h ∙ ap (λ y. y.answer) q
 
   back : (y : Outcome) → y ≡ entered_to out (narrow (no_room lim room (plus (manifest_fill m) (new_fill (length p)))) (inserted_of lim (room_of o) m p)) → y ≡ entered_to out (inserted_of lim room m p)
   back y e = e ∙ ap (entered_to out) (sym (narrowed lim room (room_of o) m p w))
 
-  within_found : (i : ℕ) → r ≡ lay.Found i → record { answer = Found i; out = out } ≡ entered_to out (inserted_of lim room m p)
-  within_found i h = back (record { answer = Found i; out = out }) (narrow_found o out (no_room lim room (plus (manifest_fill m) (new_fill (length p)))) i (inserted_of lim (room_of o) m p) (told (lay.Found i) h))
+  within_found : (i : ℕ) → r ≡ Ok (lay.Found i) → record { answer = Ok (Found i); out = out } ≡ entered_to out (inserted_of lim room m p)
+  within_found i h = back (record { answer = Ok (Found i); out = out }) (narrow_found o out (no_room lim room (plus (manifest_fill m) (new_fill (length p)))) i (inserted_of lim (room_of o) m p) (told (Ok (lay.Found i)) h))
 
-  within_refused : (x : Refusal) → r ≡ lay.Refused x → refused_to out x ≡ entered_to out (inserted_of lim room m p)
-  within_refused x h = back (refused_to out x) (narrow_refused o out (no_room lim room (plus (manifest_fill m) (new_fill (length p)))) x (inserted_of lim (room_of o) m p) (told (lay.Refused x) h))
+  within_refused : (x : Refusal) → r ≡ Err x → refused_to out x ≡ entered_to out (inserted_of lim room m p)
+  within_refused x h = back (refused_to out x) (narrow_refused o out (no_room lim room (plus (manifest_fill m) (new_fill (length p)))) x (inserted_of lim (room_of o) m p) (told (Err x) h))
 
-  module _ (i : ℕ) (row : ManifestRow) (h : r ≡ lay.Entered i row) (b : Bool) (k : b ≡ no_room lim room (plus (manifest_fill m) (new_fill (length p)))) where
+  module _ (i : ℕ) (row : ManifestRow) (h : r ≡ Ok (lay.Entered i row)) (b : Bool) (k : b ≡ no_room lim room (plus (manifest_fill m) (new_fill (length p)))) where
     within_full : b ≡ true → refused_to out NoRoom ≡ entered_to out (inserted_of lim room m p)
-    within_full t = back (refused_to out NoRoom) (narrow_full o out (no_room lim room (plus (manifest_fill m) (new_fill (length p)))) i row (inserted_of lim (room_of o) m p) (told (lay.Entered i row) h) (sym k ∙ t))
+    within_full t = back (refused_to out NoRoom) (narrow_full o out (no_room lim room (plus (manifest_fill m) (new_fill (length p)))) i row (inserted_of lim (room_of o) m p) (told (Ok (lay.Entered i row)) h) (sym k ∙ t))
 
     within_put : b ≡ false → wrote i (put_of (manifest_bytes (manifest_in l row)) out) ≡ entered_to out (inserted_of lim room m p)
-    within_put t = back (wrote i (put_of (manifest_bytes (manifest_in l row)) out)) (narrow_put o out (no_room lim room (plus (manifest_fill m) (new_fill (length p)))) i row l (inserted_of lim (room_of o) m p) (told (lay.Entered i row) h) (ap (λ y. y.out) q) (sym k ∙ t))
+    within_put t = back (wrote i (put_of (manifest_bytes (manifest_in l row)) out)) (narrow_put o out (no_room lim room (plus (manifest_fill m) (new_fill (length p)))) i row l (inserted_of lim (room_of o) m p) (told (Ok (lay.Entered i row)) h) (ap (λ y. y.out) q) (sym k ∙ t))
 
-  laid_entered : (i : ℕ) (row : ManifestRow) → r ≡ lay.Entered i row → (b : Bool) → b ≡ no_room lim room (plus (manifest_fill m) (new_fill (length p)))
+  laid_entered : (i : ℕ) (row : ManifestRow) → r ≡ Ok (lay.Entered i row) → (b : Bool) → b ≡ no_room lim room (plus (manifest_fill m) (new_fill (length p)))
       → pick b (refused_to out NoRoom) (wrote i (put_of (manifest_bytes (manifest_in l row)) out)) ≡ entered_to out (inserted_of lim room m p)
   laid_entered i row h true k = within_full i row h true k refl
   laid_entered i row h false k = within_put i row h false k refl
@@ -169,21 +164,18 @@ module _ (lim : Limits) (room : Fill) (m : Manifest) (p : List ℕ) (o : Lent) (
   pub laid_means : laid_to lim room (plus (manifest_fill m) (new_fill (length p))) out l r ≡ entered_to out (inserted_of lim room m p)
   laid_means = go r refl
     where
-      go : (x : Inserted) → r ≡ x → laid_to lim room (plus (manifest_fill m) (new_fill (length p))) out l x ≡ entered_to out (inserted_of lim room m p)
-      go (lay.Found i) h = within_found i h
-      go (lay.Entered i row) h = laid_entered i row h (no_room lim room (plus (manifest_fill m) (new_fill (length p)))) refl
-      go (lay.Refused x) h = within_refused x h
+      go : (x : Result Inserted Refusal) → r ≡ x → laid_to lim room (plus (manifest_fill m) (new_fill (length p))) out l x ≡ entered_to out (inserted_of lim room m p)
+      go (Ok (lay.Found i)) h = within_found i h
+      go (Ok (lay.Entered i row)) h = laid_entered i row h (no_room lim room (plus (manifest_fill m) (new_fill (length p)))) refl
+      go (Err x) h = within_refused x h
 
 -- ---- what came of the insertion
 
-module _ (lim : Limits) (room f : Fill) (out : List ℕ) (l : Lent) (a : Inserted) where
-  pub laid_found : (i : ℕ) → a ≡ lay.Found i → record { answer = Found i; out = out } ≡ laid_to lim room f out l a
-  laid_found i h = rw h
-
-  pub laid_refused : (x : Refusal) → a ≡ lay.Refused x → refused_to out x ≡ laid_to lim room f out l a
+module _ (lim : Limits) (room f : Fill) (out : List ℕ) (l : Lent) (a : Result Inserted Refusal) where
+  pub laid_refused : (x : Refusal) → a ≡ Err x → refused_to out x ≡ laid_to lim room f out l a
   laid_refused x h = rw h
 
-  module _ (i : ℕ) (row : ManifestRow) (h : a ≡ lay.Entered i row) (b : Bool) (k : b ≡ no_room lim room f) where
+  module _ (i : ℕ) (row : ManifestRow) (h : a ≡ Ok (lay.Entered i row)) (b : Bool) (k : b ≡ no_room lim room f) where
     pub laid_full : b ≡ true → refused_to out NoRoom ≡ laid_to lim room f out l a
     laid_full t = rw (h, sym k ∙ t)
 
@@ -193,11 +185,11 @@ module _ (lim : Limits) (room f : Fill) (out : List ℕ) (l : Lent) (a : Inserte
 -- ---- rows, and what was read
 
 module _ (lim : Limits) (room : Fill) (p out : List ℕ) where
-  pub rows_broken : (l : Lent) (m : ManifestRow) (rule : ℕ) → judged_of lim l m ≡ Breaks rule → refused_to out (Unlawful rule) ≡ inserted_in lim room p out (rows_in lim l (Are m))
+  pub rows_broken : (l : Lent) (m : ManifestRow) (rule : ℕ) → judged_of lim l m ≡ Err rule → refused_to out (Unlawful rule) ≡ inserted_in lim room p out (rows_in lim l (Ok m))
   unfolding inserted_in
   rows_broken l m rule h = rw h
 
-  pub rows_lawful : (l : Lent) (m : ManifestRow) → judged_of lim l m ≡ Lawful → entered_to out (inserted_of lim room (manifest_in l m) p) ≡ inserted_in lim room p out (rows_in lim l (Are m))
+  pub rows_lawful : (l : Lent) (m : ManifestRow) → judged_of lim l m ≡ Ok tt → entered_to out (inserted_of lim room (manifest_in l m) p) ≡ inserted_in lim room p out (rows_in lim l (Ok m))
   unfolding inserted_in
   rows_lawful l m h = rw h
 
@@ -208,14 +200,6 @@ module _ (lim : Limits) (room : Fill) (p out : List ℕ) where
 -- ---- room in both kinds of tables
 
 module _ (f w o : Fill) where
-  pub first_holds : (r : Bool) → fits f w ≡ true → r ≡ fits f o → r ≡ both_fit f w o
-  unfolding both_fit
-  first_holds r h k = rw h k
-
-  pub first_fails : fits f w ≡ false → false ≡ both_fit f w o
-  unfolding both_fit
-  first_fails h = rw h
-
   pub both_fit_lem : both_fit f w o ≡ true → (fits f w ≡ true) × (fits f o ≡ true)
   unfolding both_fit
   both_fit_lem e = go (fits f w) (fits f o) e

@@ -1,3 +1,4 @@
+pub mod Exits
 pub mod Opens
 pub mod Writes
 pub mod Looks

@@ -1,16 +1,12 @@
 -- What the bytes handed to an entry point are: a lawful manifest, or a refusal.
-use Rattle.std.specs.Prelude.{ℕ, Bool, not, List, ltb, length}
+use Rattle.std.specs.Prelude.{ℕ, Bool, not, List, ltb, length, Err, Ok, Result}
 use Rattle.records.specs.Model.{Manifest}
 use Rattle.records.specs.Fill.{fits}
 use Rattle.records.specs.Decode.{Lent}
 use Rattle.records.specs.declared.Limits.{Limits}
 use Rattle.records.specs.declared.Refusal.{Refusal}
 use Rattle.records.specs.declared.Refusal.TheVariants.{Unlawful, NotWellFormed, NotTheRecord}
-use Rattle.lawful.specs.declared.Judged.{Judged}
-use Rattle.lawful.specs.declared.Judged.TheVariants.{Lawful, Breaks}
 use Rattle.msgpack.specs.Skip.{whole_of}
-use Rattle.msgpack.specs.declared.Whole.{Whole}
-use Rattle.msgpack.specs.declared.Whole.TheVariants.{Good, Bad}
 use Rattle.manifest_values.specs.Read.{Got, is, wrong, manifest_at}
 use Rattle.manifest_read.specs.Answer.{broken_of, work_room}
 
@@ -24,9 +20,9 @@ on refuse give (holds m) = give m
 on refuse give (refused r) = refuse r
 
 -- "a manifest breaks L1..L5", "first broken rule's number"
-abbrev pub by_law : Judged → Manifest → Encoded
-by_law Lawful m = holds m
-by_law (Breaks rule) m = refused (Unlawful rule)
+abbrev pub by_law : Result Unit ℕ → Manifest → Encoded
+by_law (Ok _) m = holds m
+by_law (Err rule) m = refused (Unlawful rule)
 
 -- "well-formed, not the record", "start of the first wrong value"
 abbrev pub by_record : Limits → Got Manifest → Encoded
@@ -34,9 +30,9 @@ by_record lim (wrong q) = refused (NotTheRecord q)
 by_record lim (is m p) = by_law (broken_of lim m) m
 
 -- "not well-formed MessagePack, bytes left over, nesting above 16"
-abbrev pub by_whole : Limits → List ℕ → Whole → Encoded
-by_whole lim s (Bad q) = refused (NotWellFormed q)
-by_whole lim s Good = by_record lim (manifest_at s 0)
+abbrev pub by_whole : Limits → List ℕ → Result Unit ℕ → Encoded
+by_whole lim s (Err q) = refused (NotWellFormed q)
+by_whole lim s (Ok _) = by_record lim (manifest_at s 0)
 
 -- "Reading: 18, 19, 1."
 unfoldable pub encoded_of : Limits → List ℕ → Encoded

@@ -1,5 +1,5 @@
 -- Insert on an encoded manifest.
-use Rattle.std.specs.Prelude.{ℕ, not, ◌||◌, List, [], ◌∷◌}
+use Rattle.std.specs.Prelude.{ℕ, not, ◌||◌, List, [], ◌∷◌, Err, Ok, Result}
 use Rattle.keys.specs.Pick.{pick}
 use Rattle.records.specs.Fill.{fits}
 use Rattle.records.specs.Decode.{Lent}
@@ -13,32 +13,30 @@ use Rattle.segments.specs.Refuses.{prefix_over}
 use Rattle.segments.specs.Insert.{Entry, found, entered, refused, inserted_of}
 use Rattle.manifest_write.specs.Bytes.{manifest_bytes}
 use Rattle.manifest_write.specs.Answer.{put_of, Outcome as Put}
-use Rattle.manifest_write.specs.declared.Written.{Written}
-use Rattle.manifest_write.specs.declared.Written.TheVariants as write
 use Rattle.encoded.specs.Encoded.{Encoded, on, encoded_of, long_of, short_of}
+use Rattle.encoded.specs.declared.InsertedTo.TheVariants.{Found, Entered}
 use Rattle.encoded.specs.declared.InsertedTo.{InsertedTo}
-use Rattle.encoded.specs.declared.InsertedTo.TheVariants.{Found, Entered, Refused}
 
 -- an answer, and what the lent slice for the encoded result holds
 pub record Outcome : Type 0 where
-  pub answer : InsertedTo
+  pub answer : Result InsertedTo Refusal
   pub out : List ℕ
 
 -- "Each returns its number and place (0 where none is named) and changes no lent output."
 abbrev pub refused_to : List ℕ → Refusal → Outcome
-refused_to out r = record { answer = Refused r; out = out }
+refused_to out r = record { answer = Err r; out = out }
 
 -- what came of writing the manifest that the prefix entered at place i
-abbrev pub entered_by : ℕ → Written → InsertedTo
-entered_by i (write.Done n) = Entered i n
-entered_by i (write.Refused r) = Refused r
+abbrev pub entered_by : ℕ → Result ℕ Refusal → Result InsertedTo Refusal
+entered_by i (Ok n) = Ok (Entered i n)
+entered_by i (Err r) = Err r
 
 abbrev pub wrote : ℕ → Put → Outcome
 wrote i w = record { answer = entered_by i w.answer; out = w.out }
 
 -- "a held prefix is found"; where the prefix entered, the resulting manifest is written
 abbrev pub entered_to : List ℕ → Entry → Outcome
-entered_to out (found i) = record { answer = Found i; out = out }
+entered_to out (found i) = record { answer = Ok (Found i); out = out }
 entered_to out (entered i n) = wrote i (put_of (manifest_bytes n) out)
 entered_to out (refused r) = refused_to out r
 
@@ -53,7 +51,7 @@ insert_to lim s p room w o out =
     (inserted_in lim room p out (encoded_of lim s)))
 
 -- the number and the values of each answer
-abbrev pub inserted : InsertedTo → List ℕ
-inserted (Found i) = 0 ∷ 0 ∷ i ∷ []
-inserted (Entered i n) = 0 ∷ 1 ∷ i ∷ n ∷ []
-inserted (Refused r) = refusal r
+abbrev pub inserted : Result InsertedTo Refusal → List ℕ
+inserted (Ok (Found i)) = 0 ∷ 0 ∷ i ∷ []
+inserted (Ok (Entered i n)) = 0 ∷ 1 ∷ i ∷ n ∷ []
+inserted (Err r) = refusal r

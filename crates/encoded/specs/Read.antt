@@ -1,5 +1,5 @@
 -- Reading a manifest and writing it anew.
-use Rattle.std.specs.Prelude.{ℕ, List}
+use Rattle.std.specs.Prelude.{ℕ, List, Err}
 use Rattle.keys.specs.Pick.{pick}
 use Rattle.records.specs.Model.{Manifest}
 use Rattle.records.specs.Fill.{manifest_fill}
@@ -13,12 +13,11 @@ use Rattle.measure.specs.Measure.{l1_of}
 use Rattle.copy.specs.Copy.{no_room}
 use Rattle.manifest_write.specs.Bytes.{manifest_bytes}
 use Rattle.manifest_write.specs.Answer.{Outcome, put_of}
-use Rattle.manifest_write.specs.declared.Written.TheVariants.{Refused}
 use Rattle.encoded.specs.Encoded.{on, encoded_of, long_of, short_of}
 
 -- "Each returns its number and place (0 where none is named) and changes no lent output."
 abbrev pub refused_with : List ℕ → Refusal → Outcome
-refused_with out r = record { answer = Refused r; out = out }
+refused_with out r = record { answer = Err r; out = out }
 
 -- a manifest as the result: "result breaks a number in L1, or a lent output is too short" is 4, first for the records and bytes that
 -- it fills, then for its encoded form

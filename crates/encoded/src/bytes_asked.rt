@@ -4,7 +4,6 @@ ghost use Rattle.manifest_rows.specs.Stored.{lent};
 ghost use Rattle.encoded.specs.Lookup.{lookup_of};
 ghost use Rattle.encoded.specs.Select.{select_of};
 
-use crate::Rows;
 use crate::bytes_read::{has_tables, rows_of};
 use keys::Range;
 use manifest_read::LONGEST;
@@ -21,16 +20,16 @@ pub fn lookup(
     runs: &mut [u64],
     borrows: &mut [u64],
     ids: &mut [u64],
-) -> Looked
+) -> Result<Looked, Refusal>
     ensures { result ≡ lookup_of lim s.now prefix.now (lent segments.old views.old runs.old borrows.old ids.old []) }
 {
     if LONGEST < s.len() {
-        return Looked::Refused(Refusal::OverLimit);
+        return Err(Refusal::OverLimit);
     }
     if lim.prefix < prefix.len() {
-        return Looked::Refused(Refusal::OverLimit);
+        return Err(Refusal::OverLimit);
     }
-    if has_tables(
+    if !has_tables(
         lim,
         segments.len(),
         views.len(),
@@ -38,14 +37,10 @@ pub fn lookup(
         borrows.len(),
         ids.len(),
     ) {
-        return match rows_of(lim, s, segments, views, runs, borrows, ids) {
-            Rows::Are(m) => {
-                tree_for_segment(lim, segments, views, runs, borrows, ids, s, m, prefix)
-            }
-            Rows::Refused(x) => Looked::Refused(x),
-        };
+        return Err(Refusal::NoRoom);
     }
-    Looked::Refused(Refusal::NoRoom)
+    let m = rows_of(lim, s, segments, views, runs, borrows, ids)?;
+    tree_for_segment(lim, segments, views, runs, borrows, ids, s, m, prefix)
 }
 
 // ---- selection
@@ -61,16 +56,16 @@ pub fn select(
     runs: &mut [u64],
     borrows: &mut [u64],
     ids: &mut [u64],
-) -> Selected
+) -> Result<Selected, Refusal>
     ensures { result ≡ select_of lim s.now args.now r (lent segments.old views.old runs.old borrows.old ids.old []) }
 {
     if LONGEST < s.len() {
-        return Selected::Refused(Refusal::OverLimit);
+        return Err(Refusal::OverLimit);
     }
     if range_over(lim.key, args.len(), r) {
-        return Selected::Refused(Refusal::OverLimit);
+        return Err(Refusal::OverLimit);
     }
-    if has_tables(
+    if !has_tables(
         lim,
         segments.len(),
         views.len(),
@@ -78,12 +73,8 @@ pub fn select(
         borrows.len(),
         ids.len(),
     ) {
-        return match rows_of(lim, s, segments, views, runs, borrows, ids) {
-            Rows::Are(m) => {
-                select_segments(lim, segments, views, runs, borrows, ids, s, m, args, r)
-            }
-            Rows::Refused(x) => Selected::Refused(x),
-        };
+        return Err(Refusal::NoRoom);
     }
-    Selected::Refused(Refusal::NoRoom)
+    let m = rows_of(lim, s, segments, views, runs, borrows, ids)?;
+    select_segments(lim, segments, views, runs, borrows, ids, s, m, args, r)
 }

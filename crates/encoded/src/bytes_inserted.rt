@@ -12,13 +12,13 @@ ghost use Rattle.encoded.specs.InTables.{rows_in};
 ghost use Rattle.encoded.specs.Insert.{wrote, inserted_in, insert_to};
 ghost use Rattle.encoded.specs.Steps.{laid_to, both_fit};
 
+use crate::InsertedTo;
 use crate::bytes_read::{has_tables, rows_of};
-use crate::{InsertedTo, Rows};
 use insert::{Inserted, filled_with, insert_judged};
-use lawful::{Judged, lawful};
+use lawful::lawful;
 use manifest_read::LONGEST;
-use manifest_write::{Written, write_judged};
-use measure::{Measured, fits_in};
+use manifest_write::write_judged;
+use measure::fits_in;
 use records::{Fill, Limits, ManifestRow, Refusal};
 
 // Whether there is no room for a manifest that keeps L1 with an empty segment more, of a prefix of `len` bytes.
@@ -38,8 +38,8 @@ fn lacks_room(
     ensures { result ≡ no_room lim room (plus (manifest_fill (manifest_in (lent segments.now views.now runs.now borrows.now ids.now pool.now) m)) (new_fill len)) }
 {
     match filled_with(lim, segments, views, runs, borrows, ids, pool, m, len) {
-        Measured::Fills(f) => !fits_in(f, room),
-        Measured::Broken => true,
+        Some(f) => !fits_in(f, room),
+        None => true,
     }
 }
 
@@ -54,13 +54,11 @@ fn write_entered(
     m: ManifestRow,
     i: usize,
     out: &mut [u8],
-) -> InsertedTo
+) -> Result<InsertedTo, Refusal>
     ensures { record { answer = result; out = out.new } ≡ wrote i (put_of (manifest_bytes (manifest_in (lent segments.now views.now runs.now borrows.now ids.now pool.now) m)) out.old) }
 {
-    match write_judged(segments, views, runs, borrows, ids, pool, m, out) {
-        Written::Done(n) => InsertedTo::Entered(i, n),
-        Written::Refused(x) => InsertedTo::Refused(x),
-    }
+    let n = write_judged(segments, views, runs, borrows, ids, pool, m, out)?;
+    Ok(InsertedTo::Entered(i, n))
 }
 
 // Tells what came of the insertion, and writes the manifest that the prefix entered, where it has room.
@@ -75,7 +73,7 @@ fn write_inserted(
     m: ManifestRow,
     len: usize,
     room: Fill,
-    laid: Inserted,
+    laid: Result<Inserted, Refusal>,
     out_segments: &[u64],
     out_views: &[u64],
     out_runs: &[u64],
@@ -83,16 +81,15 @@ fn write_inserted(
     out_ids: &[u64],
     out_pool: &[u8],
     out: &mut [u8],
-) -> InsertedTo
+) -> Result<InsertedTo, Refusal>
     requires { l1_of lim (lent segments.now views.now runs.now borrows.now ids.now pool.now) m ≡ true }
     ensures { record { answer = result; out = out.new } ≡ laid_to lim room (plus (manifest_fill (manifest_in (lent segments.now views.now runs.now borrows.now ids.now pool.now) m)) (new_fill len)) out.old (lent out_segments.now out_views.now out_runs.now out_borrows.now out_ids.now out_pool.now) laid }
 {
-    match laid {
-        Inserted::Found(i) => InsertedTo::Found(i),
-        Inserted::Refused(x) => InsertedTo::Refused(x),
+    match laid? {
+        Inserted::Found(i) => Ok(InsertedTo::Found(i)),
         Inserted::Entered(i, row) => {
             if lacks_room(lim, segments, views, runs, borrows, ids, pool, m, len, room) {
-                return InsertedTo::Refused(Refusal::NoRoom);
+                return Err(Refusal::NoRoom);
             }
             write_entered(
                 out_segments,
@@ -118,7 +115,7 @@ fn insert_rows(
     borrows: &[u64],
     ids: &[u64],
     pool: &[u8],
-    rows: Rows,
+    rows: Result<ManifestRow, Refusal>,
     prefix: &[u8],
     room: Fill,
     out_segments: &mut [u64],
@@ -128,60 +125,55 @@ fn insert_rows(
     out_ids: &mut [u64],
     out_pool: &mut [u8],
     out: &mut [u8],
-) -> InsertedTo
+) -> Result<InsertedTo, Refusal>
     requires prefix_len_bound { length prefix.now ≤ lim.prefix }
     requires out_pool_value { fits lim.fill (room_of (lent out_segments.old out_views.old out_runs.old out_borrows.old out_ids.old out_pool.old)) ≡ true }
     ensures { record { answer = result; out = out.new } ≡ inserted_in lim room prefix.now out.old (rows_in lim (lent segments.now views.now runs.now borrows.now ids.now pool.now) rows) }
 {
-    match rows {
-        Rows::Refused(x) => InsertedTo::Refused(x),
-        Rows::Are(m) => match lawful(lim, segments, views, runs, borrows, ids, pool, m) {
-            Judged::Breaks(rule) => InsertedTo::Refused(Refusal::Unlawful(rule)),
-            Judged::Lawful => {
-                let laid = insert_judged(
-                    lim,
-                    segments,
-                    views,
-                    runs,
-                    borrows,
-                    ids,
-                    pool,
-                    m,
-                    prefix,
-                    out_segments,
-                    out_views,
-                    out_runs,
-                    out_borrows,
-                    out_ids,
-                    out_pool,
-                );
-                write_inserted(
-                    lim,
-                    segments,
-                    views,
-                    runs,
-                    borrows,
-                    ids,
-                    pool,
-                    m,
-                    prefix.len(),
-                    room,
-                    laid,
-                    out_segments,
-                    out_views,
-                    out_runs,
-                    out_borrows,
-                    out_ids,
-                    out_pool,
-                    out,
-                )
-            }
-        },
-    }
+    let m = rows?;
+    lawful(lim, segments, views, runs, borrows, ids, pool, m).map_err(Refusal::Unlawful)?;
+    let laid = insert_judged(
+        lim,
+        segments,
+        views,
+        runs,
+        borrows,
+        ids,
+        pool,
+        m,
+        prefix,
+        out_segments,
+        out_views,
+        out_runs,
+        out_borrows,
+        out_ids,
+        out_pool,
+    );
+    write_inserted(
+        lim,
+        segments,
+        views,
+        runs,
+        borrows,
+        ids,
+        pool,
+        m,
+        prefix.len(),
+        room,
+        laid,
+        out_segments,
+        out_views,
+        out_runs,
+        out_borrows,
+        out_ids,
+        out_pool,
+        out,
+    )
 }
 
 // Whether working tables and result tables of so many words have room for any manifest within L1.
 // inner
+#[tactic(auto, unfolding(crate::specs::Steps::both_fit))]
 pub fn has_results(
     lim: Limits,
     segments: usize,
@@ -198,19 +190,15 @@ pub fn has_results(
 ) -> bool
     ensures { result ≡ both_fit lim.fill (record { segments = segments / 12; views = views / 16; runs = runs / 3; borrows = borrows / 9; ids = ids / 2; bytes = lim.fill.bytes }) (record { segments = out_segments / 12; views = out_views / 16; runs = out_runs / 3; borrows = out_borrows / 9; ids = out_ids / 2; bytes = out_pool }) }
 {
-    if has_tables(lim, segments, views, runs, borrows, ids) {
-        let most = lim.fill;
-        let room = Fill {
-            segments: out_segments / 12,
-            views: out_views / 16,
-            runs: out_runs / 3,
-            borrows: out_borrows / 9,
-            ids: out_ids / 2,
-            bytes: out_pool,
-        };
-        return fits_in(most, room);
-    }
-    false
+    let room = Fill {
+        segments: out_segments / 12,
+        views: out_views / 16,
+        runs: out_runs / 3,
+        borrows: out_borrows / 9,
+        ids: out_ids / 2,
+        bytes: out_pool,
+    };
+    has_tables(lim, segments, views, runs, borrows, ids) && fits_in(lim.fill, room)
 }
 
 // The prefix's segment: found where it is held, else entered with an empty tree, and the manifest written. What the result tables
@@ -232,16 +220,16 @@ pub fn insert(
     out_ids: &mut [u64],
     out_pool: &mut [u8],
     out: &mut [u8],
-) -> InsertedTo
+) -> Result<InsertedTo, Refusal>
     ensures { record { answer = result; out = out.new } ≡ insert_to lim s.now prefix.now room (lent segments.old views.old runs.old borrows.old ids.old []) (lent out_segments.old out_views.old out_runs.old out_borrows.old out_ids.old out_pool.old) out.old }
 {
     if LONGEST < s.len() {
-        return InsertedTo::Refused(Refusal::OverLimit);
+        return Err(Refusal::OverLimit);
     }
     if lim.prefix < prefix.len() {
-        return InsertedTo::Refused(Refusal::OverLimit);
+        return Err(Refusal::OverLimit);
     }
-    if has_results(
+    if !has_results(
         lim,
         segments.len(),
         views.len(),
@@ -255,26 +243,26 @@ pub fn insert(
         out_ids.len(),
         out_pool.len(),
     ) {
-        let rows = rows_of(lim, s, segments, views, runs, borrows, ids);
-        return insert_rows(
-            lim,
-            segments,
-            views,
-            runs,
-            borrows,
-            ids,
-            s,
-            rows,
-            prefix,
-            room,
-            out_segments,
-            out_views,
-            out_runs,
-            out_borrows,
-            out_ids,
-            out_pool,
-            out,
-        );
+        return Err(Refusal::NoRoom);
     }
-    InsertedTo::Refused(Refusal::NoRoom)
+    let rows = rows_of(lim, s, segments, views, runs, borrows, ids);
+    insert_rows(
+        lim,
+        segments,
+        views,
+        runs,
+        borrows,
+        ids,
+        s,
+        rows,
+        prefix,
+        room,
+        out_segments,
+        out_views,
+        out_runs,
+        out_borrows,
+        out_ids,
+        out_pool,
+        out,
+    )
 }

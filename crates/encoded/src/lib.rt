@@ -14,20 +14,12 @@ pub use bytes_inserted::{has_results, insert};
 pub use bytes_read::{has_tables, read, rows_of};
 use records::{ManifestRow, Refusal};
 
-// Rows over the input itself, or why there are none. Whether they are lawful is not judged yet.
-#[derive(Clone, Copy)]
-pub enum Rows {
-    Are(ManifestRow),
-    Refused(Refusal),
-}
-
 // What insert answers: the place of a prefix that was held, or the place at which it entered and how many bytes the manifest with
 // it has.
 #[derive(Clone, Copy)]
 pub enum InsertedTo {
     Found(usize),
     Entered(usize, usize),
-    Refused(Refusal),
 }
 
 // The lesser of two numbers: of a table's rows and the room asked for.
@@ -35,8 +27,5 @@ pub enum InsertedTo {
 pub fn least(a: usize, b: usize) -> usize
     ensures { result ≡ lesser a b }
 {
-    if b < a {
-        return b;
-    }
-    a
+    a.min(b)
 }

@@ -1,4 +1,5 @@
 -- Which answer the clone gives, by its tests. Assumes nothing.
+use Rattle.std.specs.Prelude.{Err, Ok, Result}
 use Prim.Native.Nat.{ℕ, ◌+◌, ◌/◌, ◌^◌, ◌*◌, ◌≤◌, ◌<◌}
 use mathlib.Core.Path.{◌≡◌, refl, sym, ap, ◌∙◌}
 use mathlib.Core.Bool.{Bool, true, false, not, ◌&&◌, true≢false}
@@ -24,15 +25,12 @@ use Rattle.records.proofs.Stair.{decode_over}
 use Rattle.measure.specs.Within.{no_room}
 use Rattle.measure.proofs.Fits.{under}
 use Rattle.lawful.specs.Judge.{judged_of}
-use Rattle.lawful.specs.declared.Judged.TheVariants.{Lawful, Breaks}
 use Rattle.copy.specs.Copy.{room_of, laid_over}
 use Rattle.borrows.specs.Owned.{owned_of}
 use Rattle.borrows.specs.Clone.{uuids_of, cloned_of, refuses15, refuses16}
 use Rattle.borrows.specs.Bare.{lent_fill}
 use Rattle.borrows.specs.Answer.{ClonedOutcome, cloned_given}
 use Rattle.borrows.specs.Answer as laying
-use Rattle.borrows.specs.declared.ClonedAs.{ClonedAs}
-use Rattle.borrows.specs.declared.ClonedAs.TheVariants as lay
 use Rattle.borrows.proofs.Renewing.{uuids_long}
 use Rattle.borrows.proofs.Lending.{held_is}
 use Rattle.borrows.proofs.Baring.{clone_fill}
@@ -41,12 +39,10 @@ use Rattle.borrows.proofs.ClonedAnswers.{borrows_filled}
 use Rattle.manifest_write.specs.Bytes.{manifest_bytes}
 use Rattle.manifest_write.specs.Answer.{Outcome, put_of}
 use Rattle.manifest_write.specs.Wrote.{Wrote}
-use Rattle.manifest_write.specs.declared.Written.TheVariants.{Done}
 use Rattle.manifest_read.specs.Answer.{work_room}
 use Rattle.encoded.specs.Encoded.{refused as unread, encoded_of, long_of}
 use Rattle.encoded.specs.InTables.{rows_in}
 use Rattle.encoded.specs.Read.{refused_with}
-use Rattle.encoded.specs.declared.Rows.TheVariants.{Are}
 use Rattle.encoded.specs.Steps.{both_fit}
 use Rattle.encoded.proofs.Inserts.{full_too, both_fit_lem, unless_both}
 use Rattle.encoded_borrows.specs.Steps.{laid_put}
@@ -76,7 +72,7 @@ module _ (bs out : List ℕ) where
 
   pub enough : put_of bs out ≡ fresh_put false bs out
   unfolding fresh_put put_of
-  enough = go (ltb (length out) (length bs)) (record { answer = Done (length bs); out = over out bs })
+  enough = go (ltb (length out) (length bs)) (record { answer = Ok (length bs); out = over out bs })
     where
       go : (b : Bool) (y : Outcome) → pick b (refused_with out NoRoom) y ≡ pick b (refused_with out NoRoom) (pick b (refused_with out NoRoom) y)
       go true y = refl
@@ -104,38 +100,38 @@ names_suffice lim m path cp ws room k h =
 
 module _ (o : Lent) (out : List ℕ) (row : ManifestRow) (laid : Lent) where
   abbrev told : Bool → Bool → Bool → ClonedOutcome
-  told none full few = pick none (laying.refused NoFinal o) (pick full (laying.refused NoRoom o) (pick few (laying.refused TooFewFresh o) (record { answer = lay.Done row; out = laid })))
+  told none full few = pick none (laying.refused NoFinal o) (pick full (laying.refused NoRoom o) (pick few (laying.refused TooFewFresh o) (record { answer = Ok row; out = laid })))
 
-  by_refused : (none full few narrow : Bool) (x : Refusal) (rest : Outcome) → (full ≡ true → narrow ≡ true) → (full ≡ false → few ≡ false) → lay.Refused x ≡ (told none full few).answer
+  by_refused : (none full few narrow : Bool) (x : Refusal) (rest : Outcome) → (full ≡ true → narrow ≡ true) → (full ≡ false → few ≡ false) → Err x ≡ (told none full few).answer
       → refused_with out x ≡ pick none (refused_with out NoFinal) (pick narrow (refused_with out NoRoom) rest)
   by_refused true full few narrow x rest k j e = let g : x ≡ NoFinal = cc in rw g
   by_refused false true few narrow x rest k j e = let g : x ≡ NoRoom = cc in rw (k refl, g)
   by_refused false false true narrow x rest k j e = absurd (true≢false (j refl))
   by_refused false false false narrow x rest k j e = let z : ◌≡◌ {A = ℕ} 0 1 = cc in absurd (omega arith)
 
-  by_done : (none full few : Bool) (q : ManifestRow) (l : Lent) → lay.Done q ≡ (told none full few).answer → l ≡ (told none full few).out → (none ≡ false) × (q ≡ row) × (l ≡ laid)
+  by_done : (none full few : Bool) (q : ManifestRow) (l : Lent) → Ok q ≡ (told none full few).answer → l ≡ (told none full few).out → (none ≡ false) × (q ≡ row) × (l ≡ laid)
   by_done true full few q l e h = let z : ◌≡◌ {A = ℕ} 0 1 = cc in absurd (omega arith)
   by_done false true few q l e h = let z : ◌≡◌ {A = ℕ} 0 1 = cc in absurd (omega arith)
   by_done false false true q l e h = let z : ◌≡◌ {A = ℕ} 0 1 = cc in absurd (omega arith)
   by_done false false false q l e h = (refl, cc, h)
 
-module _ (lim : Limits) (room : Fill) (m : Manifest) (path : List ℕ) (cp : Uuid) (ws : List ℕ) (o : Lent) (w : fits lim.fill (room_of o) ≡ true) (out : List ℕ) (few : Bool) (r : ClonedAs) (l : Lent) (q : record { answer = r; out = l } ≡ cloned_given lim m path cp (uuids_of ws) o) where
+module _ (lim : Limits) (room : Fill) (m : Manifest) (path : List ℕ) (cp : Uuid) (ws : List ℕ) (o : Lent) (w : fits lim.fill (room_of o) ≡ true) (out : List ℕ) (few : Bool) (r : Result ManifestRow Refusal) (l : Lent) (q : record { answer = r; out = l } ≡ cloned_given lim m path cp (uuids_of ws) o) where
   abbrev clone : Manifest
   clone = cloned_of m path cp (uuids_of ws)
 
-  answered : (x : ClonedAs) → r ≡ x → x ≡ (cloned_given lim m path cp (uuids_of ws) o).answer
+  answered : (x : Result ManifestRow Refusal) → r ≡ x → x ≡ (cloned_given lim m path cp (uuids_of ws) o).answer
   answered x h = sym h ∙ ap (λ y. y.answer) q
 
-  with_refused : (x : Refusal) → r ≡ lay.Refused x → (n : ℕ) → n ≡ length m.borrows → (n < lim.fill.borrows → n < length ws / 2) → refused_with out x ≡ cloned_with few lim room out path cp (uuids_of ws) m
+  with_refused : (x : Refusal) → r ≡ Err x → (n : ℕ) → n ≡ length m.borrows → (n < lim.fill.borrows → n < length ws / 2) → refused_with out x ≡ cloned_with few lim room out path cp (uuids_of ws) m
   unfolding cloned_given cloned_with
   with_refused x h n e k =
       by_refused o out (manifest_row clone) (laid_over o (layout clone)) (refuses15 m.borrows) (no_room lim (room_of o) (manifest_fill clone)) (refuses16 clone.borrows (uuids_of ws)) (no_room lim room (manifest_fill clone)) x _
-      (full_too lim room (room_of o) (manifest_fill clone) w) (names_suffice lim m path cp ws (room_of o) (rw e at k)) (answered (lay.Refused x) h)
+      (full_too lim room (room_of o) (manifest_fill clone) w) (names_suffice lim m path cp ws (room_of o) (rw e at k)) (answered (Err x) h)
 
-  module _ (row : ManifestRow) (h : r ≡ lay.Done row) where
+  module _ (row : ManifestRow) (h : r ≡ Ok row) where
     given : (refuses15 m.borrows ≡ false) × (row ≡ manifest_row clone) × (l ≡ laid_over o (layout clone))
     unfolding cloned_given
-    given = by_done o out (manifest_row clone) (laid_over o (layout clone)) (refuses15 m.borrows) (no_room lim (room_of o) (manifest_fill clone)) (refuses16 clone.borrows (uuids_of ws)) row l (answered (lay.Done row) h) (ap (λ y. y.out) q)
+    given = by_done o out (manifest_row clone) (laid_over o (layout clone)) (refuses15 m.borrows) (no_room lim (room_of o) (manifest_fill clone)) (refuses16 clone.borrows (uuids_of ws)) row l (answered (Ok row) h) (ap (λ y. y.out) q)
 
     is_clone : manifest_in l row ≡ clone
     is_clone = ap (λ (x : Lent). manifest_in x row) given.2 ∙ ap (manifest_in (laid_over o (layout clone))) given.1 ∙ decode_over clone o
@@ -152,7 +148,7 @@ module _ (lim : Limits) (room : Fill) (m : Manifest) (path : List ℕ) (cp : Uui
       unfolding cloned_with
       with_put t = rw (is_clone, given.0, narrow ∙ t)
 
-  laid_done : (row : ManifestRow) → r ≡ lay.Done row → (b : Bool) → b ≡ no_room lim room (plus (manifest_fill m) (lent_fill path (owned_of m)))
+  laid_done : (row : ManifestRow) → r ≡ Ok row → (b : Bool) → b ≡ no_room lim room (plus (manifest_fill m) (lent_fill path (owned_of m)))
       → pick b (refused_with out NoRoom) (fresh_put few (manifest_bytes (manifest_in l row)) out) ≡ cloned_with few lim room out path cp (uuids_of ws) m
   laid_done row h true k = with_full row h true k refl
   laid_done row h false k = with_put row h false k refl
@@ -160,17 +156,17 @@ module _ (lim : Limits) (room : Fill) (m : Manifest) (path : List ℕ) (cp : Uui
   pub laid_means : (n : ℕ) → n ≡ length m.borrows → (n < lim.fill.borrows → n < length ws / 2) → laid_put few lim room (plus (manifest_fill m) (lent_fill path (owned_of m))) out l r ≡ cloned_with few lim room out path cp (uuids_of ws) m
   laid_means n e k = go r refl
     where
-      go : (x : ClonedAs) → r ≡ x → laid_put few lim room (plus (manifest_fill m) (lent_fill path (owned_of m))) out l x ≡ cloned_with few lim room out path cp (uuids_of ws) m
-      go (lay.Done row) h = laid_done row h (no_room lim room (plus (manifest_fill m) (lent_fill path (owned_of m)))) refl
-      go (lay.Refused x) h = with_refused x h n e k
+      go : (x : Result ManifestRow Refusal) → r ≡ x → laid_put few lim room (plus (manifest_fill m) (lent_fill path (owned_of m))) out l x ≡ cloned_with few lim room out path cp (uuids_of ws) m
+      go (Ok row) h = laid_done row h (no_room lim room (plus (manifest_fill m) (lent_fill path (owned_of m)))) refl
+      go (Err x) h = with_refused x h n e k
 
 -- ---- what came of laying
 
-module _ (few : Bool) (lim : Limits) (room f : Fill) (out : List ℕ) (l : Lent) (a : ClonedAs) where
-  pub laid_refused : (x : Refusal) → a ≡ lay.Refused x → refused_with out x ≡ laid_put few lim room f out l a
+module _ (few : Bool) (lim : Limits) (room f : Fill) (out : List ℕ) (l : Lent) (a : Result ManifestRow Refusal) where
+  pub laid_refused : (x : Refusal) → a ≡ Err x → refused_with out x ≡ laid_put few lim room f out l a
   laid_refused x h = rw h
 
-  module _ (row : ManifestRow) (h : a ≡ lay.Done row) (b : Bool) (k : b ≡ no_room lim room f) where
+  module _ (row : ManifestRow) (h : a ≡ Ok row) (b : Bool) (k : b ≡ no_room lim room f) where
     pub laid_full : b ≡ true → refused_with out NoRoom ≡ laid_put few lim room f out l a
     laid_full t = rw (h, sym k ∙ t)
 
@@ -202,11 +198,11 @@ module _ (lim : Limits) (room : Fill) (out path : List ℕ) (cp : Uuid) (l : Len
 -- ---- rows, and what was read
 
 module _ (lim : Limits) (room : Fill) (out path : List ℕ) (cp : Uuid) (fresh : List Uuid) where
-  pub rows_broken : (l : Lent) (m : ManifestRow) (rule : ℕ) → judged_of lim l m ≡ Breaks rule → refused_with out (Unlawful rule) ≡ cloned_on lim room out path cp fresh (rows_in lim l (Are m))
+  pub rows_broken : (l : Lent) (m : ManifestRow) (rule : ℕ) → judged_of lim l m ≡ Err rule → refused_with out (Unlawful rule) ≡ cloned_on lim room out path cp fresh (rows_in lim l (Ok m))
   unfolding cloned_on
   rows_broken l m rule h = rw h
 
-  pub rows_lawful : (l : Lent) (m : ManifestRow) → judged_of lim l m ≡ Lawful → cloned_put lim room out path cp fresh (manifest_in l m) ≡ cloned_on lim room out path cp fresh (rows_in lim l (Are m))
+  pub rows_lawful : (l : Lent) (m : ManifestRow) → judged_of lim l m ≡ Ok tt → cloned_put lim room out path cp fresh (manifest_in l m) ≡ cloned_on lim room out path cp fresh (rows_in lim l (Ok m))
   unfolding cloned_on
   rows_lawful l m h = rw h
 

@@ -1,4 +1,5 @@
 -- Whatever the fresh UUIDs are, the clone has as many bytes. Assumes nothing.
+use Rattle.std.specs.Prelude.{Some}
 use Prim.Native.Nat.{ℕ, suc}
 use mathlib.Core.Path.{◌≡◌, refl, ap}
 use mathlib.Core.List.{List, [], ◌∷◌, ◌++◌, map}
@@ -6,7 +7,6 @@ use native.Mathlib.Omega.{arith}
 use lib.ListN.{length, length-append}
 use Rattle.ids.specs.declared.SstId.{SstId}
 use Rattle.ids.specs.declared.Uuid.{Uuid}
-use Rattle.ids.specs.declared.Final.TheVariants.{Some}
 use Rattle.records.specs.Model.{Borrow, Manifest}
 use Rattle.msgpack_put.specs.Write.{uint_bytes, int_bytes, flag_bytes, array_bytes, bin_bytes, id_part, concat}
 use Rattle.msgpack_put.proofs.Sizes.{id_size}

@@ -1,4 +1,5 @@
 -- Which answer owned ids give, by their tests. Assumes nothing.
+use Rattle.std.specs.Prelude.{Ok}
 use Prim.Native.Nat.{ℕ}
 use mathlib.Core.Path.{◌≡◌, refl}
 use mathlib.Core.Bool.{true, false}
@@ -14,11 +15,10 @@ use Rattle.borrows.specs.Answer.{owned_given, owned_in}
 use Rattle.manifest_read.specs.Answer.{work_room}
 use Rattle.encoded.specs.Encoded.{refused, encoded_of, long_of}
 use Rattle.encoded.specs.InTables.{rows_in}
-use Rattle.encoded.specs.declared.Rows.TheVariants.{Are}
 use Rattle.encoded.proofs.Looks.{judged_on}
 use Rattle.encoded_borrows.specs.Owned.{refused_ids, owned_on, owned_to}
 
-pub owned_rows : (lim : Limits) (l : Lent) (m : ManifestRow) (out : List ℕ) → owned_in lim l m out ≡ owned_on lim out (rows_in lim l (Are m))
+pub owned_rows : (lim : Limits) (l : Lent) (m : ManifestRow) (out : List ℕ) → owned_in lim l m out ≡ owned_on lim out (rows_in lim l (Ok m))
 unfolding owned_in owned_on
 owned_rows lim l m out = judged_on (refused_ids out) (λ n. owned_given lim n out) (judged_of lim l m) (manifest_in l m)
 

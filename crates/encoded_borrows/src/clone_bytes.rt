@@ -4,7 +4,6 @@ ghost use Rattle.tables.specs.Window.{held_of};
 ghost use Rattle.records.specs.Decode.{manifest_in};
 ghost use Rattle.records.specs.Fill.{plus, fits, manifest_fill};
 ghost use Rattle.lawful.specs.Judge.{judged_of};
-ghost use Rattle.lawful.specs.declared.Judged.TheVariants.{Lawful};
 ghost use Rattle.copy.specs.Copy.{room_of, no_room};
 ghost use Rattle.borrows.specs.Owned.{owned_of};
 ghost use Rattle.borrows.specs.Clone.{uuids_of};
@@ -14,10 +13,10 @@ ghost use Rattle.manifest_rows.specs.Stored.{lent};
 ghost use Rattle.encoded_borrows.specs.Clone.{fresh_put, cloned_with};
 ghost use Rattle.encoded_borrows.specs.Steps.{laid_put};
 
-use borrows::{ClonedAs, clone_fill, cloned_judged};
+use borrows::{clone_fill, cloned_judged};
 use ids::Uuid;
-use manifest_write::{Written, add_manifest, write_judged};
-use measure::{Measured, fits_in};
+use manifest_write::{add_manifest, write_judged};
+use measure::fits_in;
 use records::{Fill, Limits, ManifestRow, Refusal};
 
 // Whether there is no room for the clone of a lawful manifest.
@@ -33,12 +32,12 @@ fn lacks_room(
     path: &[u8],
     room: Fill,
 ) -> bool
-    requires { judged_of lim (lent segments.now views.now runs.now borrows.now ids.now pool.now) m ≡ Lawful }
+    requires { judged_of lim (lent segments.now views.now runs.now borrows.now ids.now pool.now) m ≡ Ok tt }
     ensures { result ≡ no_room lim room (plus (manifest_fill (manifest_in (lent segments.now views.now runs.now borrows.now ids.now pool.now) m)) (lent_fill path.now (owned_of (manifest_in (lent segments.now views.now runs.now borrows.now ids.now pool.now) m)))) }
 {
     match clone_fill(lim, segments, views, runs, borrows, ids, pool, m, path) {
-        Measured::Fills(f) => !fits_in(f, room),
-        Measured::Broken => true,
+        Some(f) => !fits_in(f, room),
+        None => true,
     }
 }
 
@@ -82,14 +81,14 @@ pub fn write_clone(
     m: ManifestRow,
     few: bool,
     out: &mut [u8],
-) -> Written
+) -> Result<usize, Refusal>
     ensures { record { answer = result; out = out.new } ≡ fresh_put few (manifest_bytes (manifest_in (lent segments.now views.now runs.now borrows.now ids.now pool.now) m)) out.old }
 {
     if few {
         if is_longer(segments, views, runs, borrows, ids, pool, m, out) {
-            return Written::Refused(Refusal::NoRoom);
+            return Err(Refusal::NoRoom);
         }
-        return Written::Refused(Refusal::TooFewFresh);
+        return Err(Refusal::TooFewFresh);
     }
     write_judged(segments, views, runs, borrows, ids, pool, m, out)
 }
@@ -107,7 +106,7 @@ fn write_laid(
     path: &[u8],
     few: bool,
     room: Fill,
-    laid: ClonedAs,
+    laid: Result<ManifestRow, Refusal>,
     out_segments: &[u64],
     out_views: &[u64],
     out_runs: &[u64],
@@ -115,31 +114,27 @@ fn write_laid(
     out_ids: &[u64],
     out_pool: &[u8],
     out: &mut [u8],
-) -> Written
-    requires { judged_of lim (lent segments.now views.now runs.now borrows.now ids.now pool.now) m ≡ Lawful }
+) -> Result<usize, Refusal>
+    requires { judged_of lim (lent segments.now views.now runs.now borrows.now ids.now pool.now) m ≡ Ok tt }
     ensures { record { answer = result; out = out.new } ≡ laid_put few lim room (plus (manifest_fill (manifest_in (lent segments.now views.now runs.now borrows.now ids.now pool.now) m)) (lent_fill path.now (owned_of (manifest_in (lent segments.now views.now runs.now borrows.now ids.now pool.now) m)))) out.old (lent out_segments.now out_views.now out_runs.now out_borrows.now out_ids.now out_pool.now) laid }
 {
-    match laid {
-        ClonedAs::Refused(x) => Written::Refused(x),
-        ClonedAs::Done(row) => {
-            if lacks_room(
-                lim, segments, views, runs, borrows, ids, pool, m, path, room,
-            ) {
-                return Written::Refused(Refusal::NoRoom);
-            }
-            write_clone(
-                out_segments,
-                out_views,
-                out_runs,
-                out_borrows,
-                out_ids,
-                out_pool,
-                row,
-                few,
-                out,
-            )
-        }
+    let row = laid?;
+    if lacks_room(
+        lim, segments, views, runs, borrows, ids, pool, m, path, room,
+    ) {
+        return Err(Refusal::NoRoom);
     }
+    write_clone(
+        out_segments,
+        out_views,
+        out_runs,
+        out_borrows,
+        out_ids,
+        out_pool,
+        row,
+        few,
+        out,
+    )
 }
 
 // Clones the manifest of lawful rows with the UUIDs `names`, which suffice for any clone within L1. The result tables have room for
@@ -165,8 +160,8 @@ pub fn clone_with(
     out_ids: &mut [u64],
     out_pool: &mut [u8],
     out: &mut [u8],
-) -> Written
-    requires m_value { judged_of lim (lent segments.now views.now runs.now borrows.now ids.now pool.now) m ≡ Lawful }
+) -> Result<usize, Refusal>
+    requires m_value { judged_of lim (lent segments.now views.now runs.now borrows.now ids.now pool.now) m ≡ Ok tt }
     requires borrows_in_bounds { held_of m.external_dbs (length borrows.now / 9) < lim.fill.borrows → held_of m.external_dbs (length borrows.now / 9) < length names.now / 2 }
     requires out_pool_value { fits lim.fill (room_of (lent out_segments.old out_views.old out_runs.old out_borrows.old out_ids.old out_pool.old)) ≡ true }
     ensures { record { answer = result; out = out.new } ≡ cloned_with few lim room out.old path.now checkpoint (uuids_of names.now) (manifest_in (lent segments.now views.now runs.now borrows.now ids.now pool.now) m) }

@@ -13,15 +13,14 @@ ghost use Rattle.encoded.specs.InTables.{rows_in};
 ghost use Rattle.encoded_borrows.specs.Owned.{owned_to};
 ghost use Rattle.encoded_borrows.specs.Clone.{cloned_on, clone_to};
 
-use borrows::{Owned, owned_ssts};
+use borrows::owned_ssts;
 use clone_bytes::clone_with;
 pub use clone_bytes::write_clone;
-use encoded::{Rows, has_results, has_tables, rows_of};
+use encoded::{has_results, has_tables, rows_of};
 use ids::Uuid;
-use lawful::{Judged, lawful};
+use lawful::lawful;
 use manifest_read::LONGEST;
-use manifest_write::Written;
-use records::{Fill, Limits, Refusal};
+use records::{Fill, Limits, ManifestRow, Refusal};
 use tables::held;
 
 // ---- owned ids
@@ -36,13 +35,13 @@ pub fn owned(
     borrows: &mut [u64],
     ids: &mut [u64],
     out: &mut [u64],
-) -> Owned
+) -> Result<usize, Refusal>
     ensures { record { answer = result; out = out.new } ≡ owned_to lim s.now (lent segments.old views.old runs.old borrows.old ids.old []) out.old }
 {
     if LONGEST < s.len() {
-        return Owned::Refused(Refusal::OverLimit);
+        return Err(Refusal::OverLimit);
     }
-    if has_tables(
+    if !has_tables(
         lim,
         segments.len(),
         views.len(),
@@ -50,12 +49,10 @@ pub fn owned(
         borrows.len(),
         ids.len(),
     ) {
-        return match rows_of(lim, s, segments, views, runs, borrows, ids) {
-            Rows::Are(m) => owned_ssts(lim, segments, views, runs, borrows, ids, s, m, out),
-            Rows::Refused(x) => Owned::Refused(x),
-        };
+        return Err(Refusal::NoRoom);
     }
-    Owned::Refused(Refusal::NoRoom)
+    let m = rows_of(lim, s, segments, views, runs, borrows, ids)?;
+    owned_ssts(lim, segments, views, runs, borrows, ids, s, m, out)
 }
 
 // Clones the manifest of rows that are lawful. Where the fresh UUIDs are too few, the clone is laid with others in their place, to see how
@@ -68,7 +65,7 @@ fn clone_rows(
     borrows: &[u64],
     ids: &[u64],
     pool: &[u8],
-    rows: Rows,
+    rows: Result<ManifestRow, Refusal>,
     path: &[u8],
     checkpoint: Uuid,
     fresh: &[u64],
@@ -80,67 +77,60 @@ fn clone_rows(
     out_ids: &mut [u64],
     out_pool: &mut [u8],
     out: &mut [u8],
-) -> Written
+) -> Result<usize, Refusal>
     requires borrows_in_bounds { lim.fill.borrows ≤ length borrows.now / 9 }
     requires out_pool_value { fits lim.fill (room_of (lent out_segments.old out_views.old out_runs.old out_borrows.old out_ids.old out_pool.old)) ≡ true }
     ensures { record { answer = result; out = out.new } ≡ cloned_on lim room out.old path.now checkpoint (uuids_of fresh.now) (rows_in lim (lent segments.now views.now runs.now borrows.now ids.now pool.now) rows) }
 {
-    match rows {
-        Rows::Refused(x) => Written::Refused(x),
-        Rows::Are(m) => match lawful(lim, segments, views, runs, borrows, ids, pool, m) {
-            Judged::Breaks(rule) => Written::Refused(Refusal::Unlawful(rule)),
-            Judged::Lawful => {
-                let w = m.external_dbs;
-                let n = held(w, borrows.len() / 9);
-                if n < fresh.len() / 2 {
-                    return clone_with(
-                        lim,
-                        segments,
-                        views,
-                        runs,
-                        borrows,
-                        ids,
-                        pool,
-                        m,
-                        path,
-                        checkpoint,
-                        fresh,
-                        false,
-                        room,
-                        out_segments,
-                        out_views,
-                        out_runs,
-                        out_borrows,
-                        out_ids,
-                        out_pool,
-                        out,
-                    );
-                }
-                clone_with(
-                    lim,
-                    segments,
-                    views,
-                    runs,
-                    borrows,
-                    ids,
-                    pool,
-                    m,
-                    path,
-                    checkpoint,
-                    borrows,
-                    true,
-                    room,
-                    out_segments,
-                    out_views,
-                    out_runs,
-                    out_borrows,
-                    out_ids,
-                    out_pool,
-                    out,
-                )
-            }
-        },
+    let m = rows?;
+    lawful(lim, segments, views, runs, borrows, ids, pool, m).map_err(Refusal::Unlawful)?;
+    let n = held(m.external_dbs, borrows.len() / 9);
+    if n < fresh.len() / 2 {
+        return clone_with(
+            lim,
+            segments,
+            views,
+            runs,
+            borrows,
+            ids,
+            pool,
+            m,
+            path,
+            checkpoint,
+            fresh,
+            false,
+            room,
+            out_segments,
+            out_views,
+            out_runs,
+            out_borrows,
+            out_ids,
+            out_pool,
+            out,
+        );
     }
+    clone_with(
+        lim,
+        segments,
+        views,
+        runs,
+        borrows,
+        ids,
+        pool,
+        m,
+        path,
+        checkpoint,
+        borrows,
+        true,
+        room,
+        out_segments,
+        out_views,
+        out_runs,
+        out_borrows,
+        out_ids,
+        out_pool,
+        out,
+    )
 }
 
 // A manifest that borrows all it uses, from the parent at `path` or from those that the parent borrows from, written. What the result
@@ -164,16 +154,16 @@ pub fn clone(
     out_ids: &mut [u64],
     out_pool: &mut [u8],
     out: &mut [u8],
-) -> Written
+) -> Result<usize, Refusal>
     ensures { record { answer = result; out = out.new } ≡ clone_to lim s.now path.now checkpoint (uuids_of fresh.now) room (lent segments.old views.old runs.old borrows.old ids.old []) (lent out_segments.old out_views.old out_runs.old out_borrows.old out_ids.old out_pool.old) out.old }
 {
     if LONGEST < s.len() {
-        return Written::Refused(Refusal::OverLimit);
+        return Err(Refusal::OverLimit);
     }
     if lim.path < path.len() {
-        return Written::Refused(Refusal::OverLimit);
+        return Err(Refusal::OverLimit);
     }
-    if has_results(
+    if !has_results(
         lim,
         segments.len(),
         views.len(),
@@ -187,28 +177,28 @@ pub fn clone(
         out_ids.len(),
         out_pool.len(),
     ) {
-        let rows = rows_of(lim, s, segments, views, runs, borrows, ids);
-        return clone_rows(
-            lim,
-            segments,
-            views,
-            runs,
-            borrows,
-            ids,
-            s,
-            rows,
-            path,
-            checkpoint,
-            fresh,
-            room,
-            out_segments,
-            out_views,
-            out_runs,
-            out_borrows,
-            out_ids,
-            out_pool,
-            out,
-        );
+        return Err(Refusal::NoRoom);
     }
-    Written::Refused(Refusal::NoRoom)
+    let rows = rows_of(lim, s, segments, views, runs, borrows, ids);
+    clone_rows(
+        lim,
+        segments,
+        views,
+        runs,
+        borrows,
+        ids,
+        s,
+        rows,
+        path,
+        checkpoint,
+        fresh,
+        room,
+        out_segments,
+        out_views,
+        out_runs,
+        out_borrows,
+        out_ids,
+        out_pool,
+        out,
+    )
 }

@@ -1,4 +1,5 @@
 -- The merged list, written; and the part of the result tables that a room leaves. Assumes nothing.
+use Rattle.std.specs.Prelude.{Err, Ok, Result}
 use Prim.Native.Nat.{ℕ, ◌*◌}
 use mathlib.Core.Path.{◌≡◌, refl, sym, ap, ◌∙◌}
 use mathlib.Core.Bool.{Bool, true, false, not}
@@ -26,8 +27,6 @@ use Rattle.merge.specs.Merge.{from_writer, refuses6, place6, from_compactor, ref
 use Rattle.merge.specs.Answer.{LentList, Outcome as Given, list_room, list_over, refused, list_given, writer_given, compactor_given, given_by}
 use Rattle.merge.specs.declared.Side.{Side}
 use Rattle.merge.specs.declared.Side.TheVariants.{Writer, Compactor}
-use Rattle.merge.specs.declared.Merged.{Merged}
-use Rattle.merge.specs.declared.Merged.TheVariants.{Done, Refused}
 use Rattle.merge.proofs.Standing.{standing}
 use Rattle.manifest_write.specs.Bytes.{segments_bytes}
 use Rattle.manifest_write.specs.Answer.{Outcome, put_of}
@@ -36,9 +35,9 @@ use Rattle.encoded.specs.Read.{refused_with}
 use Rattle.encoded_merge.specs.Merge.{list_to, writer_to, compactor_to, merged_to}
 
 -- what comes of an answer of the merge, where the result tables hold o
-abbrev told : List ℕ → Merged → LentList → Outcome
-told out (Done w) o = put_of (segments_bytes (standing o w)) out
-told out (Refused x) o = refused_with out x
+abbrev told : List ℕ → Result Window Refusal → LentList → Outcome
+told out (Ok w) o = put_of (segments_bytes (standing o w)) out
+told out (Err x) o = refused_with out x
 
 module _ (lim : Limits) (out : List ℕ) (o : LentList) where
   list_back : (ss : List Segment) → standing (list_over o ss) (record { first = 0; count = length ss }) ≡ ss
@@ -54,7 +53,7 @@ module _ (lim : Limits) (out : List ℕ) (o : LentList) where
   list_told ss = go (no_room lim (list_room o) (sum segment_fill ss))
     where
       go : (b : Bool)
-          → told out (pick b (refused NoRoom o) (record { answer = Done (record { first = 0; count = length ss }); out = list_over o ss })).answer (pick b (refused NoRoom o) (record { answer = Done (record { first = 0; count = length ss }); out = list_over o ss })).out
+          → told out (pick b (refused NoRoom o) (record { answer = Ok (record { first = 0; count = length ss }); out = list_over o ss })).answer (pick b (refused NoRoom o) (record { answer = Ok (record { first = 0; count = length ss }); out = list_over o ss })).out
           ≡ pick b (refused_with out NoRoom) (put_of (segments_bytes ss) out)
       go true = refl
       go false = ap (λ (s : List Segment). put_of (segments_bytes s) out) (list_back ss)
@@ -74,15 +73,15 @@ module _ (lim : Limits) (out : List ℕ) (o : LentList) where
       own_told (refuses7 ss) (KeptNest (place7 ss)) (list_given lim ss o)
       ∙ ap (λ (y : Outcome). pick (refuses7 ss) (refused_with out (KeptNest (place7 ss))) y) (list_told ss)
 
-module _ (side : Side) (lim : Limits) (ws cs : List Segment) (out : List ℕ) (o o' : LentList) (r : Merged) (e : record { answer = r; out = o' } ≡ given_by side lim ws cs o) where
-  into : (y : Merged) → r ≡ y → told out y o' ≡ merged_to side lim (list_room o) out ws cs
-  into y h = ap (λ (x : Merged). told out x o') (sym h) ∙ ap (λ (g : Given). told out g.answer g.out) e ∙ given_told lim out o side ws cs
+module _ (side : Side) (lim : Limits) (ws cs : List Segment) (out : List ℕ) (o o' : LentList) (r : Result Window Refusal) (e : record { answer = r; out = o' } ≡ given_by side lim ws cs o) where
+  into : (y : Result Window Refusal) → r ≡ y → told out y o' ≡ merged_to side lim (list_room o) out ws cs
+  into y h = ap (λ (x : Result Window Refusal). told out x o') (sym h) ∙ ap (λ (g : Given). told out g.answer g.out) e ∙ given_told lim out o side ws cs
 
-  pub into_done : (w : Window) → r ≡ Done w → put_of (segments_bytes (segments_in o'.segments o'.runs o'.views o'.pool w)) out ≡ merged_to side lim (list_room o) out ws cs
-  into_done w h = into (Done w) h
+  pub into_done : (w : Window) → r ≡ Ok w → put_of (segments_bytes (segments_in o'.segments o'.runs o'.views o'.pool w)) out ≡ merged_to side lim (list_room o) out ws cs
+  into_done w h = into (Ok w) h
 
-  pub into_refused : (x : Refusal) → r ≡ Refused x → refused_with out x ≡ merged_to side lim (list_room o) out ws cs
-  into_refused x h = into (Refused x) h
+  pub into_refused : (x : Refusal) → r ≡ Err x → refused_with out x ≡ merged_to side lim (list_room o) out ws cs
+  into_refused x h = into (Err x) h
 
 -- ---- the part of the result tables that the room and L1 leave
 

@@ -1,4 +1,5 @@
 -- Two manifests read one behind the other, and the order of refusals. Assumes nothing.
+use Rattle.std.specs.Prelude.{Err, Ok, Result}
 use Prim.Native.Nat.{ℕ, ◌*◌, ◌/◌, ◌≤◌, ◌<◌}
 use mathlib.Core.Path.{◌≡◌, refl, sym, ap, subst, ◌∙◌}
 use mathlib.Core.Bool.{Bool, true, false, not, ◌||◌}
@@ -19,10 +20,7 @@ use Rattle.records.specs.declared.Refusal.TheVariants.{OverLimit, NoRoom}
 use Rattle.records.proofs.Sums.{empty_plus}
 use Rattle.measure.proofs.Fits.{Under, says_fits, under}
 use Rattle.lawful.specs.Judge.{judged_of}
-use Rattle.lawful.specs.declared.Judged.TheVariants.{Lawful}
 use Rattle.copy.specs.Copy.{room_of, Outcome as Copying}
-use Rattle.copy.specs.declared.Copied.{Copied}
-use Rattle.copy.specs.declared.Copied.TheVariants.{Done, Refused}
 use Rattle.manifest_write.specs.Answer.{Outcome}
 use Rattle.manifest_read.specs.Answer.{work_room, read_at_of}
 use Rattle.manifest_read.proofs.Answers.{SameLong}
@@ -32,10 +30,6 @@ use Rattle.standing.proofs.Reading.{read_into, read_is, Accepted, accepted_is, a
 use Rattle.encoded_merge.specs.Merge.{merged_to, short_both, both_to, merge_to}
 use Rattle.encoded_merge.specs.Steps.{ready_of, joined_of, BothRead}
 use Rattle.merge.specs.declared.Side.{Side}
-use Rattle.encoded_merge.specs.declared.Ready.{Ready}
-use Rattle.encoded_merge.specs.declared.Ready.TheVariants.{Yes, No}
-use Rattle.encoded_merge.specs.declared.Both.{Both}
-use Rattle.encoded_merge.specs.declared.Both.TheVariants.{Are, Refused as Unread}
 
 -- ---- whether both may be read
 
@@ -67,12 +61,12 @@ halves most a b c d e f =
     (says_fits (plus most most) (record { segments = a / 12; views = b / 16; runs = c / 3; borrows = d / 9; ids = e / 2; bytes = f }))
 
 module _ (lim : Limits) (s t : List ℕ) (room : Fill) (p : ℕ) where
-  pub ready_writer : 0x1_0000 < length s → No OverLimit ≡ ready_of lim s t room p
+  pub ready_writer : 0x1_0000 < length s → Err OverLimit ≡ ready_of lim s t room p
   unfolding ready_of
   ready_writer h = rw (lt-ltb 0x1_0000 (length s) h)
 
   module _ (h : length s ≤ 0x1_0000) where
-    pub ready_compactor : 0x1_0000 < length t → No OverLimit ≡ ready_of lim s t room p
+    pub ready_compactor : 0x1_0000 < length t → Err OverLimit ≡ ready_of lim s t room p
     unfolding ready_of
     ready_compactor k = rw (le-ltb 0x1_0000 (length s) h, lt-ltb 0x1_0000 (length t) k)
 
@@ -81,15 +75,15 @@ module _ (lim : Limits) (s t : List ℕ) (a b c d e f p : ℕ) (h : length s ≤
   two : (y : Bool) → x ≡ y → fits (plus lim.fill lim.fill) (record { segments = a / 12; views = b / 16; runs = c / 3; borrows = d / 9; ids = e / 2; bytes = f }) ≡ y
   two y j = sym (halves lim.fill a b c d e f) ∙ sym i ∙ j
 
-  pub ready_short : x ≡ false → No NoRoom ≡ ready_of lim s t (record { segments = a / 12; views = b / 16; runs = c / 3; borrows = d / 9; ids = e / 2; bytes = f }) p
+  pub ready_short : x ≡ false → Err NoRoom ≡ ready_of lim s t (record { segments = a / 12; views = b / 16; runs = c / 3; borrows = d / 9; ids = e / 2; bytes = f }) p
   unfolding ready_of
   ready_short j = rw (le-ltb 0x1_0000 (length s) h, le-ltb 0x1_0000 (length t) k, two false j)
 
-  pub ready_pool : x ≡ true → p < lim.fill.bytes → No NoRoom ≡ ready_of lim s t (record { segments = a / 12; views = b / 16; runs = c / 3; borrows = d / 9; ids = e / 2; bytes = f }) p
+  pub ready_pool : x ≡ true → p < lim.fill.bytes → Err NoRoom ≡ ready_of lim s t (record { segments = a / 12; views = b / 16; runs = c / 3; borrows = d / 9; ids = e / 2; bytes = f }) p
   unfolding ready_of
   ready_pool j l = rw (le-ltb 0x1_0000 (length s) h, le-ltb 0x1_0000 (length t) k, two true j, lt-ltb p lim.fill.bytes l)
 
-  pub ready_both : x ≡ true → lim.fill.bytes ≤ p → Yes ≡ ready_of lim s t (record { segments = a / 12; views = b / 16; runs = c / 3; borrows = d / 9; ids = e / 2; bytes = f }) p
+  pub ready_both : x ≡ true → lim.fill.bytes ≤ p → Ok tt ≡ ready_of lim s t (record { segments = a / 12; views = b / 16; runs = c / 3; borrows = d / 9; ids = e / 2; bytes = f }) p
   unfolding ready_of
   ready_both j l = rw (le-ltb 0x1_0000 (length s) h, le-ltb 0x1_0000 (length t) k, two true j, le-ltb p lim.fill.bytes l)
 
@@ -119,12 +113,12 @@ work_same lim w w₁ n h = rw (n.segments, n.views, n.runs, n.borrows, n.ids) h
 abbrev over : Lent → List ℕ → Lent
 over w s = record { segments = w.segments; views = w.views; runs = w.runs; borrows = w.borrows; ids = w.ids; pool = s }
 
-module _ (lim : Limits) (s t : List ℕ) (p : ℕ) (w o : Lent) (r₀ : Ready) (e₀ : r₀ ≡ ready_of lim s t (room_of o) p) where
-  pub not_ready : (x : Refusal) → r₀ ≡ No x → BothRead lim s t p w o o (Unread x)
+module _ (lim : Limits) (s t : List ℕ) (p : ℕ) (w o : Lent) (r₀ : Result Unit Refusal) (e₀ : r₀ ≡ ready_of lim s t (room_of o) p) where
+  pub not_ready : (x : Refusal) → r₀ ≡ Err x → BothRead lim s t p w o o (Err x)
   unfolding ready_of merge_to short_both
   not_ready x f side room pool out h = rw h (go (long_of s) (long_of t) (fits (plus lim.fill lim.fill) (room_of o)) (ltb p lim.fill.bytes) (not (fits lim.fill (work_room lim w))) _ (sym e₀ ∙ f))
     where
-      go : (a b c d e : Bool) (y : Outcome) → pick (a || b) (No OverLimit) (pick (not c || d) (No NoRoom) Yes) ≡ No x → refused_with out x ≡ pick (a || b) (refused_with out OverLimit) (pick (e || (not c || d)) (refused_with out NoRoom) y)
+      go : (a b c d e : Bool) (y : Outcome) → pick {A = Result Unit Refusal} (a || b) (Err OverLimit) (pick (not c || d) (Err NoRoom) (Ok tt)) ≡ Err x → refused_with out x ≡ pick (a || b) (refused_with out OverLimit) (pick (e || (not c || d)) (refused_with out NoRoom) y)
       go true b c d e y i = let z : OverLimit ≡ x = cc in rw (sym z)
       go false true c d e y i = let z : OverLimit ≡ x = cc in rw (sym z)
       go false false false d true y i = let z : NoRoom ≡ x = cc in rw (sym z)
@@ -133,12 +127,12 @@ module _ (lim : Limits) (s t : List ℕ) (p : ℕ) (w o : Lent) (r₀ : Ready) (
       go false false true true false y i = let z : NoRoom ≡ x = cc in rw (sym z)
       go false false true false e y i = let z : ◌≡◌ {A = ℕ} 0 1 = cc in absurd (omega arith)
 
-  module _ (f₀ : r₀ ≡ Yes) where
+  module _ (f₀ : r₀ ≡ Ok tt) where
     open_all : (long_of s ≡ false) × (long_of t ≡ false) × (fits (plus lim.fill lim.fill) (room_of o) ≡ true) × (ltb p lim.fill.bytes ≡ false)
     unfolding ready_of
     open_all = go (long_of s) (long_of t) (fits (plus lim.fill lim.fill) (room_of o)) (ltb p lim.fill.bytes) (sym e₀ ∙ f₀)
       where
-        go : (a b c d : Bool) → pick (a || b) (No OverLimit) (pick (not c || d) (No NoRoom) Yes) ≡ Yes → (a ≡ false) × (b ≡ false) × (c ≡ true) × (d ≡ false)
+        go : (a b c d : Bool) → pick {A = Result Unit Refusal} (a || b) (Err OverLimit) (pick (not c || d) (Err NoRoom) (Ok tt)) ≡ Ok tt → (a ≡ false) × (b ≡ false) × (c ≡ true) × (d ≡ false)
         go true b c d i = let z : ◌≡◌ {A = ℕ} 0 1 = cc in absurd (omega arith)
         go false true c d i = let z : ◌≡◌ {A = ℕ} 0 1 = cc in absurd (omega arith)
         go false false false d i = let z : ◌≡◌ {A = ℕ} 0 1 = cc in absurd (omega arith)
@@ -154,12 +148,12 @@ module _ (lim : Limits) (s t : List ℕ) (p : ℕ) (w o : Lent) (r₀ : Ready) (
     unfolding merge_to short_both
     order_read k side room pool out h = rw (h, open_all.0, open_all.1, k, open_all.2, open_all.3)
 
-    module _ (r₁ : Copied) (o₁ : Lent) (e₁ : record { answer = r₁; out = o₁ } ≡ read_at_of lim s (over w s) o empty) where
-      short_all : fits lim.fill (work_room lim w) ≡ false → ◌≡◌ {A = Copying} (record { answer = r₁; out = o₁ }) (record { answer = Refused NoRoom; out = o })
+    module _ (r₁ : Result ManifestRow Refusal) (o₁ : Lent) (e₁ : record { answer = r₁; out = o₁ } ≡ read_at_of lim s (over w s) o empty) where
+      short_all : fits lim.fill (work_room lim w) ≡ false → ◌≡◌ {A = Copying} (record { answer = r₁; out = o₁ }) (record { answer = Err NoRoom; out = o })
       unfolding read_at_of
       short_all k = rw (open_all.0, k) at e₁
 
-      short_is : fits lim.fill (work_room lim w) ≡ false → r₁ ≡ Refused NoRoom
+      short_is : fits lim.fill (work_room lim w) ≡ false → r₁ ≡ Err NoRoom
       short_is k = ap (λ (y : Copying). y.answer) (short_all k)
 
       first_roomy : fits (plus empty lim.fill) (room_of o) ≡ true
@@ -168,7 +162,7 @@ module _ (lim : Limits) (s t : List ℕ) (p : ℕ) (w o : Lent) (r₀ : Ready) (
       first_is : fits lim.fill (work_room lim w) ≡ true → record { answer = r₁; out = o₁ } ≡ read_into empty o (encoded_of lim s)
       first_is k = e₁ ∙ read_is lim empty o first_roomy s (over w s) open_all.0 k
 
-      first_refused : (x : Refusal) → r₁ ≡ Refused x → BothRead lim s t p w o o₁ (Unread x)
+      first_refused : (x : Refusal) → r₁ ≡ Err x → BothRead lim s t p w o o₁ (Err x)
       unfolding both_to
       first_refused x f side room pool out h = go (fits lim.fill (work_room lim w)) refl
         where
@@ -176,14 +170,14 @@ module _ (lim : Limits) (s t : List ℕ) (p : ℕ) (w o : Lent) (r₀ : Ready) (
           go true k = let z : refused_with out x ≡ both_to side lim room out (encoded_of lim s) (encoded_of lim t) = rw (read_refused lim s empty o o₁ r₁ (first_is k) x f) in z ∙ order_read k side room pool out h
           go false k = let i = sym (short_is k) ∙ f in let z : NoRoom ≡ x = cc in rw (sym z) (order_work k side room pool out)
 
-      refused_out : (x : Refusal) → r₁ ≡ Refused x → o₁ ≡ o
+      refused_out : (x : Refusal) → r₁ ≡ Err x → o₁ ≡ o
       refused_out x f = go (fits lim.fill (work_room lim w)) refl
         where
           go : (b : Bool) → fits lim.fill (work_room lim w) ≡ b → o₁ ≡ o
           go true k = ap (λ (y : Copying). y.out) (rw (read_refused lim s empty o o₁ r₁ (first_is k) x f) at (first_is k))
           go false k = ap (λ (y : Copying). y.out) (short_all k)
 
-      module _ (row₁ : ManifestRow) (f₁ : r₁ ≡ Done row₁) where
+      module _ (row₁ : ManifestRow) (f₁ : r₁ ≡ Ok row₁) where
         work_roomy : fits lim.fill (work_room lim w) ≡ true
         work_roomy = go (fits lim.fill (work_room lim w)) refl
           where
@@ -201,26 +195,26 @@ module _ (lim : Limits) (s t : List ℕ) (p : ℕ) (w o : Lent) (r₀ : Ready) (
       second_roomy : fits (plus lim.fill lim.fill) (room_of o₁) ≡ true
       second_roomy = go r₁ refl
         where
-          go : (y : Copied) → r₁ ≡ y → fits (plus lim.fill lim.fill) (room_of o₁) ≡ true
-          go (Done row) f = rw (room_done row f) open_all.2
-          go (Refused x) f = rw (refused_out x f) open_all.2
+          go : (y : Result ManifestRow Refusal) → r₁ ≡ y → fits (plus lim.fill lim.fill) (room_of o₁) ≡ true
+          go (Ok row) f = rw (room_done row f) open_all.2
+          go (Err x) f = rw (refused_out x f) open_all.2
 
       -- what the second reading asks for
       pub second_behind : fits lim.fill (room_of o₁) ≡ true
       second_behind = true_says (says_fits lim.fill (room_of o₁)) (fits_one lim.fill (room_of o₁) second_roomy)
 
-      module _ (w₁ : Lent) (n : SameLong w w₁) (r₂ : Copied) (o₂ : Lent) (e₂ : record { answer = r₂; out = o₂ } ≡ read_at_of lim t w₁ o₁ lim.fill) where
-        module _ (row₁ : ManifestRow) (f₁ : r₁ ≡ Done row₁) where
+      module _ (w₁ : Lent) (n : SameLong w w₁) (r₂ : Result ManifestRow Refusal) (o₂ : Lent) (e₂ : record { answer = r₂; out = o₂ } ≡ read_at_of lim t w₁ o₁ lim.fill) where
+        module _ (row₁ : ManifestRow) (f₁ : r₁ ≡ Ok row₁) where
           second_is : record { answer = r₂; out = o₂ } ≡ read_into lim.fill o₁ (encoded_of lim t)
           second_is = e₂ ∙ read_is lim lim.fill o₁ second_roomy t w₁ open_all.1 (work_same lim w w₁ n (work_roomy row₁ f₁))
 
-          second_refused : (x : Refusal) → r₂ ≡ Refused x → BothRead lim s t p w o o₂ (Unread x)
+          second_refused : (x : Refusal) → r₂ ≡ Err x → BothRead lim s t p w o o₂ (Err x)
           unfolding both_to
           second_refused x f side room pool out h =
               let z : refused_with out x ≡ both_to side lim room out (encoded_of lim s) (encoded_of lim t) = rw ((first_accepted row₁ f₁).is, read_refused lim t lim.fill o₁ o₂ r₂ second_is x f) in
               z ∙ order_read (work_roomy row₁ f₁) side room pool out h
 
-          module _ (row₂ : ManifestRow) (f₂ : r₂ ≡ Done row₂) where
+          module _ (row₂ : ManifestRow) (f₂ : r₂ ≡ Ok row₂) where
             -- the first stands on
             stays : Accepted lim s empty row₁ o₂
             stays = accepted_stays lim t lim.fill o₁ o₂ r₂ second_is second_roomy row₂ f₂ s empty row₁ (fits_self lim.fill) (first_accepted row₁ f₁)
@@ -233,7 +227,7 @@ module _ (lim : Limits) (s t : List ℕ) (p : ℕ) (w o : Lent) (r₀ : Ready) (
             unfolding both_to
             both_given side room out = rw (accepted_is lim s empty row₁ o₂ stays, accepted_is lim t lim.fill row₂ o₂ second_accepted)
 
-            both_are : BothRead lim s t p w o o₂ (Are row₁ row₂)
+            both_are : BothRead lim s t p w o o₂ (Ok (row₁, row₂))
             both_are = (
               (accepted_judged lim s empty row₁ o₂ stays, accepted_judged lim t lim.fill row₂ o₂ second_accepted),
               work_roomy row₁ f₁,
@@ -241,43 +235,31 @@ module _ (lim : Limits) (s t : List ℕ) (p : ℕ) (w o : Lent) (r₀ : Ready) (
               λ side room pool out h. both_given side room out ∙ order_read (work_roomy row₁ f₁) side room pool out h,
             )
 
-        pub both_joined : (r : Both) → r ≡ joined_of r₁ r₂ → BothRead lim s t p w o o₂ r
-        both_joined r i = subst (λ (y : Both). BothRead lim s t p w o o₂ y) (sym i) (go r₁ r₂ refl refl)
+        pub both_joined : (r : Result (ManifestRow × ManifestRow) Refusal) → r ≡ joined_of r₁ r₂ → BothRead lim s t p w o o₂ r
+        both_joined r i = subst (λ (y : Result (ManifestRow × ManifestRow) Refusal). BothRead lim s t p w o o₂ y) (sym i) (go r₁ r₂ refl refl)
           where
-            go : (y z : Copied) → r₁ ≡ y → r₂ ≡ z → BothRead lim s t p w o o₂ (joined_of y z)
-            go (Done row₁) (Done row₂) f g = both_are row₁ f row₂ g
-            go (Done row₁) (Refused x) f g = second_refused row₁ f x g
-            go (Refused x) z f g = first_refused x f
-
--- ---- the two answers as one
-
-module _ (a b : Copied) where
-  pub join_are : (m n : ManifestRow) → a ≡ Done m → b ≡ Done n → Are m n ≡ joined_of a b
-  join_are m n h k = rw (h, k)
-
-  pub join_second : (m : ManifestRow) (x : Refusal) → a ≡ Done m → b ≡ Refused x → Unread x ≡ joined_of a b
-  join_second m x h k = rw (h, k)
-
-  pub join_first : (x : Refusal) → a ≡ Refused x → Unread x ≡ joined_of a b
-  join_first x h = rw h
+            go : (y z : Result ManifestRow Refusal) → r₁ ≡ y → r₂ ≡ z → BothRead lim s t p w o o₂ (joined_of y z)
+            go (Ok row₁) (Ok row₂) f g = both_are row₁ f row₂ g
+            go (Ok row₁) (Err x) f g = second_refused row₁ f x g
+            go (Err x) z f g = first_refused x f
 
 -- ---- both, read
 
-module _ (lim : Limits) (s t : List ℕ) (p : ℕ) (w o l : Lent) (r : Both) (e : BothRead lim s t p w o l r) where
-  told : (y : Both) → r ≡ y → BothRead lim s t p w o l y
-  told y h = subst (λ (x : Both). BothRead lim s t p w o l x) h e
+module _ (lim : Limits) (s t : List ℕ) (p : ℕ) (w o l : Lent) (r : Result (ManifestRow × ManifestRow) Refusal) (e : BothRead lim s t p w o l r) where
+  told : (y : Result (ManifestRow × ManifestRow) Refusal) → r ≡ y → BothRead lim s t p w o l y
+  told y h = subst (λ (x : Result (ManifestRow × ManifestRow) Refusal). BothRead lim s t p w o l x) h e
 
-  pub read_none : (x : Refusal) → r ≡ Unread x → (side : Side) (room : Fill) (pool out : List ℕ) → length pool ≡ p → refused_with out x ≡ merge_to side lim s t room w o pool out
-  read_none x h = told (Unread x) h
+  pub read_none : (x : Refusal) → r ≡ Err x → (side : Side) (room : Fill) (pool out : List ℕ) → length pool ≡ p → refused_with out x ≡ merge_to side lim s t room w o pool out
+  read_none x h = told (Err x) h
 
-  module _ (m n : ManifestRow) (h : r ≡ Are m n) where
+  module _ (m n : ManifestRow) (h : r ≡ Ok (m, n)) where
     pub read_merged : (side : Side) (room : Fill) (pool out : List ℕ) → length pool ≡ p → merged_to side lim room out (manifest_in l m).segments (manifest_in l n).segments ≡ merge_to side lim s t room w o pool out
-    read_merged = (told (Are m n) h).3
+    read_merged = (told (Ok (m, n)) h).3
 
     -- the rows are lawful, and the tables that were read into have room for any list within L1
     pub read_fine : (a b c d : ℕ) → a ≡ length w.segments → b ≡ length w.views → c ≡ length w.runs → d ≡ p
-        → ((judged_of lim l m ≡ Lawful) × (judged_of lim l n ≡ Lawful)) × ((lim.fill.segments * 12 ≤ a) × (lim.fill.views * 16 ≤ b) × (lim.fill.runs * 3 ≤ c) × (lim.fill.bytes ≤ d))
+        → ((judged_of lim l m ≡ Ok tt) × (judged_of lim l n ≡ Ok tt)) × ((lim.fill.segments * 12 ≤ a) × (lim.fill.views * 16 ≤ b) × (lim.fill.runs * 3 ≤ c) × (lim.fill.bytes ≤ d))
     read_fine a b c d i j k q =
-        let z = told (Are m n) h in
+        let z = told (Ok (m, n)) h in
         let u = under lim.fill (work_room lim w) z.1 in
         (z.0, (omega (arith, u.segments, i), omega (arith, u.views, j), omega (arith, u.runs, k), omega (arith, z.2, q)))

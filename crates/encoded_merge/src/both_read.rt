@@ -3,11 +3,9 @@ ghost use Rattle.std.specs.Prelude.{◌≡◌, [], ◌/◌};
 ghost use Rattle.manifest_rows.specs.Stored.{lent};
 ghost use Rattle.encoded_merge.specs.Steps.{ready_of, joined_of, BothRead};
 
-use crate::{Both, Ready};
-use copy::Copied;
 use manifest_read::{LONGEST, read_at};
 use measure::fits_in;
-use records::{Fill, Limits, Refusal};
+use records::{Fill, Limits, ManifestRow, Refusal};
 
 // Whether neither source is too long, tables of so many words that hold both have room for any two, and so has the result's pool for one.
 fn ready(
@@ -21,16 +19,15 @@ fn ready(
     both_ids: usize,
     both_pool: usize,
     pool: usize,
-) -> Ready
+) -> Result<(), Refusal>
     ensures { result ≡ ready_of lim writer.now compactor.now (record { segments = both_segments / 12; views = both_views / 16; runs = both_runs / 3; borrows = both_borrows / 9; ids = both_ids / 2; bytes = both_pool }) pool }
 {
     if LONGEST < writer.len() {
-        return Ready::No(Refusal::OverLimit);
+        return Err(Refusal::OverLimit);
     }
     if LONGEST < compactor.len() {
-        return Ready::No(Refusal::OverLimit);
+        return Err(Refusal::OverLimit);
     }
-    let most = lim.fill;
     let half = Fill {
         segments: both_segments / 24,
         views: both_views / 32,
@@ -39,25 +36,23 @@ fn ready(
         ids: both_ids / 4,
         bytes: both_pool / 2,
     };
-    if fits_in(most, half) {
-        if most.bytes <= pool {
-            return Ready::Yes;
-        }
+    if !fits_in(lim.fill, half) {
+        return Err(Refusal::NoRoom);
     }
-    Ready::No(Refusal::NoRoom)
+    if pool < lim.fill.bytes {
+        return Err(Refusal::NoRoom);
+    }
+    Ok(())
 }
 
 // What the two readings answer, as one: the first refusal counts.
-fn joined(writer: Copied, compactor: Copied) -> Both
+fn joined(
+    writer: Result<ManifestRow, Refusal>,
+    compactor: Result<ManifestRow, Refusal>,
+) -> Result<(ManifestRow, ManifestRow), Refusal>
     ensures { result ≡ joined_of writer compactor }
 {
-    match writer {
-        Copied::Done(w) => match compactor {
-            Copied::Done(c) => Both::Are(w, c),
-            Copied::Refused(x) => Both::Refused(x),
-        },
-        Copied::Refused(x) => Both::Refused(x),
-    }
+    Ok((writer?, compactor?))
 }
 
 // Reads the writer's manifest, and behind it the compactor's, whether or not the first is refused. The result's pool has `pool` bytes.
@@ -77,10 +72,10 @@ pub fn read_both(
     both_borrows: &mut [u64],
     both_ids: &mut [u64],
     both_pool: &mut [u8],
-) -> Both
+) -> Result<(ManifestRow, ManifestRow), Refusal>
     ensures { BothRead lim writer.now compactor.now pool (lent segments.old views.old runs.old borrows.old ids.old []) (lent both_segments.old both_views.old both_runs.old both_borrows.old both_ids.old both_pool.old) (lent both_segments.new both_views.new both_runs.new both_borrows.new both_ids.new both_pool.new) result }
 {
-    match ready(
+    ready(
         lim,
         writer,
         compactor,
@@ -91,50 +86,46 @@ pub fn read_both(
         both_ids.len(),
         both_pool.len(),
         pool,
-    ) {
-        Ready::No(x) => Both::Refused(x),
-        Ready::Yes => {
-            let none = Fill {
-                segments: 0,
-                views: 0,
-                runs: 0,
-                borrows: 0,
-                ids: 0,
-                bytes: 0,
-            };
-            let first = read_at(
-                lim,
-                writer,
-                segments,
-                views,
-                runs,
-                borrows,
-                ids,
-                both_segments,
-                both_views,
-                both_runs,
-                both_borrows,
-                both_ids,
-                both_pool,
-                none,
-            );
-            let second = read_at(
-                lim,
-                compactor,
-                segments,
-                views,
-                runs,
-                borrows,
-                ids,
-                both_segments,
-                both_views,
-                both_runs,
-                both_borrows,
-                both_ids,
-                both_pool,
-                lim.fill,
-            );
-            joined(first, second)
-        }
-    }
+    )?;
+    let none = Fill {
+        segments: 0,
+        views: 0,
+        runs: 0,
+        borrows: 0,
+        ids: 0,
+        bytes: 0,
+    };
+    let first = read_at(
+        lim,
+        writer,
+        segments,
+        views,
+        runs,
+        borrows,
+        ids,
+        both_segments,
+        both_views,
+        both_runs,
+        both_borrows,
+        both_ids,
+        both_pool,
+        none,
+    );
+    let second = read_at(
+        lim,
+        compactor,
+        segments,
+        views,
+        runs,
+        borrows,
+        ids,
+        both_segments,
+        both_views,
+        both_runs,
+        both_borrows,
+        both_ids,
+        both_pool,
+        lim.fill,
+    );
+    joined(first, second)
 }

@@ -11,23 +11,8 @@ ghost use Rattle.encoded_merge.specs.Merge.{merge_to};
 
 use both_read::read_both;
 use list_merged::merge_within;
-use manifest_write::Written;
 use merge::Side;
 use records::{Fill, Limits, ManifestRow, Refusal};
-
-// Whether two manifests may be read.
-#[derive(Clone, Copy)]
-enum Ready {
-    Yes,
-    No(Refusal),
-}
-
-// The rows of the writer's manifest and of the compactor's in the same tables, or why there are none.
-#[derive(Clone, Copy)]
-enum Both {
-    Are(ManifestRow, ManifestRow),
-    Refused(Refusal),
-}
 
 // The segment list of the writer's manifest, merged with the compactor's, or of both, as the compactor merges them.
 pub fn merge(
@@ -49,10 +34,10 @@ pub fn merge(
     both_pool: &mut [u8],
     pool: &mut [u8],
     out: &mut [u8],
-) -> Written
+) -> Result<usize, Refusal>
     ensures { record { answer = result; out = out.new } ≡ merge_to side lim writer.now compactor.now room (lent segments.old views.old runs.old borrows.old ids.old []) (lent both_segments.old both_views.old both_runs.old both_borrows.old both_ids.old both_pool.old) pool.old out.old }
 {
-    match read_both(
+    let (w, c) = read_both(
         lim,
         writer,
         compactor,
@@ -68,25 +53,23 @@ pub fn merge(
         both_borrows,
         both_ids,
         both_pool,
-    ) {
-        Both::Are(w, c) => merge_within(
-            side,
-            lim,
-            both_segments,
-            both_views,
-            both_runs,
-            both_borrows,
-            both_ids,
-            both_pool,
-            w,
-            c,
-            room,
-            segments,
-            views,
-            runs,
-            pool,
-            out,
-        ),
-        Both::Refused(x) => Written::Refused(x),
-    }
+    )?;
+    merge_within(
+        side,
+        lim,
+        both_segments,
+        both_views,
+        both_runs,
+        both_borrows,
+        both_ids,
+        both_pool,
+        w,
+        c,
+        room,
+        segments,
+        views,
+        runs,
+        pool,
+        out,
+    )
 }

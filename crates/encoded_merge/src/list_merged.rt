@@ -2,15 +2,14 @@
 ghost use Rattle.std.specs.Prelude.{◌≡◌, ◌*◌, ◌≤◌, length};
 ghost use Rattle.records.specs.Decode.{manifest_in};
 ghost use Rattle.lawful.specs.Judge.{judged_of};
-ghost use Rattle.lawful.specs.declared.Judged.TheVariants.{Lawful};
 ghost use Rattle.merge.specs.Answer.{list_room};
 ghost use Rattle.manifest_rows.specs.Stored.{lent};
 ghost use Rattle.encoded_merge.specs.Merge.{merged_to};
 
 use encoded::least;
-use manifest_write::{Written, write_segments};
-use merge::{Merged, Side, merge_judged};
-use records::{Fill, Limits, ManifestRow};
+use manifest_write::write_segments;
+use merge::{Side, merge_judged};
+use records::{Fill, Limits, ManifestRow, Refusal};
 
 // Merges two lawful manifests into the result tables, and writes the list.
 fn merge_into(
@@ -29,11 +28,11 @@ fn merge_into(
     out_runs: &mut [u64],
     out_pool: &mut [u8],
     out: &mut [u8],
-) -> Written
-    requires { (judged_of lim (lent segments.now views.now runs.now borrows.now ids.now pool.now) writer ≡ Lawful) × (judged_of lim (lent segments.now views.now runs.now borrows.now ids.now pool.now) compactor ≡ Lawful) }
+) -> Result<usize, Refusal>
+    requires { (judged_of lim (lent segments.now views.now runs.now borrows.now ids.now pool.now) writer ≡ Ok tt) × (judged_of lim (lent segments.now views.now runs.now borrows.now ids.now pool.now) compactor ≡ Ok tt) }
     ensures { record { answer = result; out = out.new } ≡ merged_to side lim (list_room (record { segments = out_segments.old; views = out_views.old; runs = out_runs.old; pool = out_pool.old })) out.old (manifest_in (lent segments.now views.now runs.now borrows.now ids.now pool.now) writer).segments (manifest_in (lent segments.now views.now runs.now borrows.now ids.now pool.now) compactor).segments }
 {
-    match merge_judged(
+    let w = merge_judged(
         side,
         lim,
         segments,
@@ -48,10 +47,8 @@ fn merge_into(
         out_views,
         out_runs,
         out_pool,
-    ) {
-        Merged::Done(w) => write_segments(out_segments, out_views, out_runs, out_pool, w, out),
-        Merged::Refused(x) => Written::Refused(x),
-    }
+    )?;
+    write_segments(out_segments, out_views, out_runs, out_pool, w, out)
 }
 
 // Merges into the part of the result tables that the room and L1 leave. They have room for any list within L1.
@@ -72,16 +69,15 @@ pub fn merge_within(
     out_runs: &mut [u64],
     out_pool: &mut [u8],
     out: &mut [u8],
-) -> Written
-    requires writer_value { (judged_of lim (lent segments.now views.now runs.now borrows.now ids.now pool.now) writer ≡ Lawful) × (judged_of lim (lent segments.now views.now runs.now borrows.now ids.now pool.now) compactor ≡ Lawful) }
+) -> Result<usize, Refusal>
+    requires writer_value { (judged_of lim (lent segments.now views.now runs.now borrows.now ids.now pool.now) writer ≡ Ok tt) × (judged_of lim (lent segments.now views.now runs.now borrows.now ids.now pool.now) compactor ≡ Ok tt) }
     requires segments_in_bounds { (lim.fill.segments * 12 ≤ length out_segments.old) × (lim.fill.views * 16 ≤ length out_views.old) × (lim.fill.runs * 3 ≤ length out_runs.old) × (lim.fill.bytes ≤ length out_pool.old) }
     ensures { record { answer = result; out = out.new } ≡ merged_to side lim room out.old (manifest_in (lent segments.now views.now runs.now borrows.now ids.now pool.now) writer).segments (manifest_in (lent segments.now views.now runs.now borrows.now ids.now pool.now) compactor).segments }
 {
-    let most = lim.fill;
-    let a = least(most.segments, room.segments) * 12;
-    let b = least(most.views, room.views) * 16;
-    let c = least(most.runs, room.runs) * 3;
-    let d = least(most.bytes, room.bytes);
+    let a = least(lim.fill.segments, room.segments) * 12;
+    let b = least(lim.fill.views, room.views) * 16;
+    let c = least(lim.fill.runs, room.runs) * 3;
+    let d = least(lim.fill.bytes, room.bytes);
     merge_into(
         side,
         lim,

@@ -1,4 +1,5 @@
 -- Arguments that are not over their limit are the same wherever their bytes stand first. Assumes nothing.
+use Rattle.std.specs.Prelude.{None, Option, Some}
 use Prim.Native.Nat.{ℕ, zero, suc, ◌+◌, ◌-◌, ◌*◌, ◌/◌, ◌≤◌, ◌<◌}
 use mathlib.Core.Path.{◌≡◌, refl, ap, ◌∙◌}
 use mathlib.Core.Bool.{Bool, true, false, not, ◌||◌}
@@ -17,8 +18,6 @@ use Rattle.tables.specs.Layout.{up_to}
 use Rattle.segments.specs.Refuses.{long_of, bound_over, range_over}
 use Rattle.project_ranges.specs.Config.{Asked, table}
 use Rattle.project_ranges.specs.Args.{asked_in, own_row, own_in, config_in, global_over, own_row_over, some_over, counted, own_over, config_over}
-use Rattle.project_ranges.specs.declared.Global.{Global}
-use Rattle.project_ranges.specs.declared.Global.TheVariants as global
 use Rattle.project_ranges.specs.declared.ProjectionConfig.{ProjectionConfig}
 use Rattle.encoded_project.specs.Project.{config_for}
 
@@ -66,9 +65,9 @@ module _ (args rest : List ℕ) where
         let w = either_false (bound_over most (length args) r.start) (bound_over most (length args) r.end) h in
         rw (bound_front r.start w.0, bound_front r.end w.1)
 
-    asked_front : (g : Global) → global_over most (length args) g ≡ false → asked_in (args ++ rest) g ≡ asked_in args g
-    asked_front global.Unset h = refl
-    asked_front (global.Set r) h = ap Asked.asked (range_front r h)
+    asked_front : (g : Option Range) → global_over most (length args) g ≡ false → asked_in (args ++ rest) g ≡ asked_in args g
+    asked_front None h = refl
+    asked_front (Some r) h = ap Asked.asked (range_front r h)
 
     -- ---- the own ranges that count
 

@@ -1,4 +1,5 @@
 -- The projected manifest, written. Assumes nothing.
+use Rattle.std.specs.Prelude.{Err, Ok, Result, None, Option, Some}
 use Prim.Native.Nat.{ℕ, ◌≤◌}
 use mathlib.Core.Path.{◌≡◌, refl, sym, ap, ◌∙◌}
 use mathlib.Core.Bool.{Bool, true, false, not, ◌&&◌, ◌||◌}
@@ -21,35 +22,28 @@ use Rattle.copy.specs.Copy.{room_of, no_room, laid_over}
 use Rattle.segments.specs.Prefixes.{prefixes}
 use Rattle.manifest_write.specs.Bytes.{manifest_bytes}
 use Rattle.manifest_write.specs.Answer.{put_of, Outcome as Put}
-use Rattle.manifest_write.specs.declared.Written.{Written}
-use Rattle.manifest_write.specs.declared.Written.TheVariants as write
 use Rattle.project_ranges.specs.Config.{Config, is_noop, names_count, refuses10, place10}
 use Rattle.project_ranges.specs.Own.{own_fault}
 use Rattle.project_ranges.specs.Args.{global_empty}
-use Rattle.project_ranges.specs.declared.Fault.{Fault}
-use Rattle.project_ranges.specs.declared.Fault.TheVariants.{None, Empty, Outside}
 use Rattle.project.specs.Project.{projected_of}
 use Rattle.project.specs.Answer.{Outcome as Given, refused, unless_fault as unless, used_short, projected_to as laid_to, projected_given}
-use Rattle.project.specs.declared.ProjectedAs.{ProjectedAs}
-use Rattle.project.specs.declared.ProjectedAs.TheVariants as laid
 use Rattle.encoded_project.specs.Project.{Outcome, refused_to, wrote, given_to, unless_fault, projected_to}
-use Rattle.encoded_project.specs.declared.ProjectedTo.TheVariants.{Done, Refused}
 
 -- ---- the result, written
 
-module _ (names : ℕ) (y : Put) (w : Written) (out : List ℕ) (e : record { answer = w; out = out } ≡ y) where
-  pub wrote_done : (n : ℕ) → w ≡ write.Done n → record { answer = Done names n; out = out } ≡ wrote names y
-  wrote_done n h = let a : ◌≡◌ {A = Outcome} (record { answer = Done names n; out = out }) (wrote names (record { answer = w; out = out })) = rw h in a ∙ ap (wrote names) e
+module _ (names : ℕ) (y : Put) (w : Result ℕ Refusal) (out : List ℕ) (e : record { answer = w; out = out } ≡ y) where
+  pub wrote_done : (n : ℕ) → w ≡ Ok n → record { answer = Ok (names, n); out = out } ≡ wrote names y
+  wrote_done n h = let a : ◌≡◌ {A = Outcome} (record { answer = Ok (names, n); out = out }) (wrote names (record { answer = w; out = out })) = rw h in a ∙ ap (wrote names) e
 
-  pub wrote_refused : (r : Refusal) → w ≡ write.Refused r → record { answer = Refused r; out = out } ≡ wrote names y
+  pub wrote_refused : (r : Refusal) → w ≡ Err r → record { answer = Err r; out = out } ≡ wrote names y
   wrote_refused r h = let a : ◌≡◌ {A = Outcome} (refused_to out r) (wrote names (record { answer = w; out = out })) = rw h in a ∙ ap (wrote names) e
 
 -- ---- from the answer on tables
 
 -- what comes of an answer, where the result tables hold o
-abbrev told : List ℕ → ProjectedAs → Lent → Outcome
-told out (laid.Done names row) o = wrote names (put_of (manifest_bytes (manifest_in o row)) out)
-told out (laid.Refused x) o = refused_to out x
+abbrev told : List ℕ → Result (ℕ × ManifestRow) Refusal → Lent → Outcome
+told out (Ok (names, row)) o = wrote names (put_of (manifest_bytes (manifest_in o row)) out)
+told out (Err x) o = refused_to out x
 
 module _ (lim : Limits) (out : List ℕ) (o : Lent) (c : Config) (places : ℕ) (h : lim.fill.views ≤ places) where
   or_none : (x n : Bool) → (x || (n && false)) ≡ x
@@ -73,7 +67,7 @@ module _ (lim : Limits) (out : List ℕ) (o : Lent) (c : Config) (places : ℕ) 
   result_told m = rw (listed m) (go (no_room lim (room_of o) (manifest_fill m)))
     where
       go : (b : Bool)
-          → told out (pick b (refused NoRoom o) (record { answer = laid.Done (names_count c.filter) (manifest_row m); out = laid_over o (layout m) })).answer (pick b (refused NoRoom o) (record { answer = laid.Done (names_count c.filter) (manifest_row m); out = laid_over o (layout m) })).out
+          → told out (pick b (refused NoRoom o) (record { answer = Ok ((names_count c.filter), (manifest_row m)); out = laid_over o (layout m) })).answer (pick b (refused NoRoom o) (record { answer = Ok ((names_count c.filter), (manifest_row m)); out = laid_over o (layout m) })).out
           ≡ pick b (refused_to out NoRoom) (wrote (names_count c.filter) (put_of (manifest_bytes m) out))
       go true = refl
       go false = ap (λ (n : Manifest). wrote (names_count c.filter) (put_of (manifest_bytes n) out)) (decode_over m o)
@@ -83,10 +77,9 @@ module _ (lim : Limits) (out : List ℕ) (o : Lent) (c : Config) (places : ℕ) 
   pick_told true x given = refl
   pick_told false x given = refl
 
-  fault_told : (f : Fault) (given : Given) → told out (unless f o given).answer (unless f o given).out ≡ unless_fault out f (told out given.answer given.out)
+  fault_told : (f : Option Refusal) (given : Given) → told out (unless f o given).answer (unless f o given).out ≡ unless_fault out f (told out given.answer given.out)
   fault_told None given = refl
-  fault_told (Empty place) given = refl
-  fault_told (Outside place) given = refl
+  fault_told (Some r) given = refl
 
   given_told : (m : Manifest) → told out (projected_given lim c places m o).answer (projected_given lim c places m o).out ≡ projected_to lim (room_of o) out c m
   unfolding projected_given projected_to
@@ -99,12 +92,12 @@ module _ (lim : Limits) (out : List ℕ) (o : Lent) (c : Config) (places : ℕ) 
       ∙ ap (λ (y : Outcome). pick (global_empty c.global) (refused_to out EmptyRange) y)
       (pick_told b x (unless f o last) ∙ ap (λ (y : Outcome). pick b (refused_to out x) y) (fault_told f last ∙ ap (unless_fault out f) (result_told (projected_of c m))))
 
-  module _ (m : Manifest) (o' : Lent) (r : ProjectedAs) (e : record { answer = r; out = o' } ≡ projected_given lim c places m o) where
-    into : (y : ProjectedAs) → r ≡ y → told out y o' ≡ projected_to lim (room_of o) out c m
-    into y k = ap (λ (x : ProjectedAs). told out x o') (sym k) ∙ ap (λ (g : Given). told out g.answer g.out) e ∙ given_told m
+  module _ (m : Manifest) (o' : Lent) (r : Result (ℕ × ManifestRow) Refusal) (e : record { answer = r; out = o' } ≡ projected_given lim c places m o) where
+    into : (y : Result (ℕ × ManifestRow) Refusal) → r ≡ y → told out y o' ≡ projected_to lim (room_of o) out c m
+    into y k = ap (λ (x : Result (ℕ × ManifestRow) Refusal). told out x o') (sym k) ∙ ap (λ (g : Given). told out g.answer g.out) e ∙ given_told m
 
-    pub into_done : (names : ℕ) (row : ManifestRow) → r ≡ laid.Done names row → wrote names (put_of (manifest_bytes (manifest_in o' row)) out) ≡ projected_to lim (room_of o) out c m
-    into_done names row k = into (laid.Done names row) k
+    pub into_done : (names : ℕ) (row : ManifestRow) → r ≡ Ok (names, row) → wrote names (put_of (manifest_bytes (manifest_in o' row)) out) ≡ projected_to lim (room_of o) out c m
+    into_done names row k = into (Ok (names, row)) k
 
-    pub into_refused : (x : Refusal) → r ≡ laid.Refused x → refused_to out x ≡ projected_to lim (room_of o) out c m
-    into_refused x k = into (laid.Refused x) k
+    pub into_refused : (x : Refusal) → r ≡ Err x → refused_to out x ≡ projected_to lim (room_of o) out c m
+    into_refused x k = into (Err x) k

@@ -1,4 +1,5 @@
 -- Reading behind the arguments: what stands there, and the order of refusals. Assumes nothing.
+use Rattle.std.specs.Prelude.{Err, Ok, Result}
 use Prim.Native.Nat.{ℕ, ◌+◌, ◌*◌, ◌/◌, ◌≤◌}
 use mathlib.Core.Path.{◌≡◌, refl, sym, ap, ◌∙◌}
 use mathlib.Core.Bool.{Bool, true, false, ◌&&◌, ◌||◌}
@@ -22,14 +23,8 @@ use Rattle.records.specs.declared.Refusal.{Refusal}
 use Rattle.records.specs.declared.Refusal.TheVariants.{Unlawful, OverLimit, NoRoom, NotWellFormed, NotTheRecord}
 use Rattle.measure.proofs.Fits.{under, says_fits}
 use Rattle.lawful.specs.Judge.{judged_of}
-use Rattle.lawful.specs.declared.Judged.{Judged}
-use Rattle.lawful.specs.declared.Judged.TheVariants.{Lawful, Breaks}
 use Rattle.copy.specs.Copy.{room_of, Outcome as Laid, given_at, copy_at_of}
-use Rattle.copy.specs.declared.Copied.{Copied}
-use Rattle.copy.specs.declared.Copied.TheVariants.{Done, Refused}
 use Rattle.msgpack.specs.Skip.{whole_of}
-use Rattle.msgpack.specs.declared.Whole.{Whole}
-use Rattle.msgpack.specs.declared.Whole.TheVariants.{Good, Bad}
 use Rattle.manifest_values.specs.Read.{Got, is, wrong, manifest_at}
 use Rattle.manifest_rows.specs.Stored.{ManifestIs}
 use Rattle.manifest_read.specs.Answer.{broken_of, refused, by_law, by_record, by_whole, work_room, read_at_of}
@@ -51,12 +46,12 @@ module _ (lim : Limits) (f c : Fill) (l : Lent) (m : ManifestRow) (o : Lent) (b 
   unfolding kept_at
   kept_over h = rw (sym e ∙ h)
 
-  module _ (h : b ≡ true) (j : Judged) (k : j ≡ judged_of lim l m) where
-    pub kept_broken : (rule : ℕ) → j ≡ Breaks rule → refused (Unlawful rule) o ≡ kept_at lim f c l m o
+  module _ (h : b ≡ true) (j : Result Unit ℕ) (k : j ≡ judged_of lim l m) where
+    pub kept_broken : (rule : ℕ) → j ≡ Err rule → refused (Unlawful rule) o ≡ kept_at lim f c l m o
     unfolding kept_at
     kept_broken rule g = rw (sym e ∙ h, sym k ∙ g)
 
-    pub kept_lawful : j ≡ Lawful → copy_at_of lim c l m o ≡ kept_at lim f c l m o
+    pub kept_lawful : j ≡ Ok tt → copy_at_of lim c l m o ≡ kept_at lim f c l m o
     unfolding kept_at
     kept_lawful g = rw (sym e ∙ h, sym k ∙ g)
 
@@ -90,12 +85,12 @@ module _ (lim : Limits) (n : ℕ) (a : ProjectionConfig) (own : List ℕ) (c : F
 
   -- ---- the bytes
 
-  module _ (s : List ℕ) (w : Whole) (e : w ≡ whole_of s) where
-    pub behind_good : (y : Laid) → w ≡ Good → y ≡ pick (over_got over (manifest_at s 0)) (refused OverLimit o) (by_record lim give o (manifest_at s 0)) → y ≡ read_with lim n a own s c o
+  module _ (s : List ℕ) (w : Result Unit ℕ) (e : w ≡ whole_of s) where
+    pub behind_good : (y : Laid) → w ≡ Ok tt → y ≡ pick (over_got over (manifest_at s 0)) (refused OverLimit o) (by_record lim give o (manifest_at s 0)) → y ≡ read_with lim n a own s c o
     unfolding read_with over_in
     behind_good y h k = rw (sym e ∙ h) k
 
-    pub behind_bad : (q : ℕ) → w ≡ Bad q → refused (NotWellFormed q) o ≡ read_with lim n a own s c o
+    pub behind_bad : (q : ℕ) → w ≡ Err q → refused (NotWellFormed q) o ≡ read_with lim n a own s c o
     unfolding read_with over_in
     behind_bad q h = rw (sym e ∙ h)
 
@@ -140,17 +135,17 @@ over_of lim n a own s m e = go (whole_of s) e
     f : Manifest → Bool
     f m = config_over lim.key n (length m.segments) a own
 
-    judged : (k : Manifest) (j : Judged) → law j k ≡ holds m → f k ≡ f m
-    judged k Lawful e = let z : k ≡ m = cc in ap f z
-    judged k (Breaks r) e = let z : ◌≡◌ {A = ℕ} 0 1 = cc in absurd (omega arith)
+    judged : (k : Manifest) (j : Result Unit ℕ) → law j k ≡ holds m → f k ≡ f m
+    judged k (Ok _) e = let z : k ≡ m = cc in ap f z
+    judged k (Err r) e = let z : ◌≡◌ {A = ℕ} 0 1 = cc in absurd (omega arith)
 
     got : (g : Got Manifest) → record_by lim g ≡ holds m → over_got f g ≡ f m
     got (is k p) e = judged k (broken_of lim k) e
     got (wrong q) e = let z : ◌≡◌ {A = ℕ} 0 1 = cc in absurd (omega arith)
 
-    go : (x : Whole) → whole_by lim s x ≡ holds m → over_whole f s x ≡ f m
-    go Good e = got (manifest_at s 0) e
-    go (Bad q) e = let z : ◌≡◌ {A = ℕ} 0 1 = cc in absurd (omega arith)
+    go : (x : Result Unit ℕ) → whole_by lim s x ≡ holds m → over_whole f s x ≡ f m
+    go (Ok _) e = got (manifest_at s 0) e
+    go (Err q) e = let z : ◌≡◌ {A = ℕ} 0 1 = cc in absurd (omega arith)
 
 module _ (lim : Limits) (s args : List ℕ) (a : ProjectionConfig) (own : List ℕ) (room : Fill) (out : List ℕ) where
   abbrev asked : Encoded → Outcome
@@ -161,7 +156,7 @@ module _ (lim : Limits) (s args : List ℕ) (a : ProjectionConfig) (own : List �
 
   module _ (n : ℕ) (en : n ≡ length args) (w : Lent) (ls : long_of s ≡ false) (kw : fits lim.fill (work_room lim w) ≡ true)
       (o : Lent) (rest : List ℕ) (ep : o.pool ≡ args ++ rest) (ko : fits (plus (bytes n) lim.fill) (room_of o) ≡ true)
-      (r : Copied) (o' : Lent) (e : record { answer = r; out = o' } ≡ read_with lim n a own s (bytes n) o) where
+      (r : Result ManifestRow Refusal) (o' : Lent) (e : record { answer = r; out = o' } ≡ read_with lim n a own s (bytes n) o) where
     -- what reading comes to
     read_whole : by_whole lim (λ m. given_at lim (bytes n) m o) s o (whole_of s) ≡ read_into (bytes n) o (encoded_of lim s)
     unfolding read_at_of
@@ -171,19 +166,19 @@ module _ (lim : Limits) (s args : List ℕ) (a : ProjectionConfig) (own : List �
     unfolding read_with
     read_by = e ∙ ap (λ (y : Laid). pick (over_in lim n a own s) (refused OverLimit o) y) read_whole
 
-    pub read_refuses : (x : Refusal) → r ≡ Refused x → refused_to out x ≡ pick (over_in lim (length args) a own s) (refused_to out OverLimit) (asked (encoded_of lim s))
+    pub read_refuses : (x : Refusal) → r ≡ Err x → refused_to out x ≡ pick (over_in lim (length args) a own s) (refused_to out OverLimit) (asked (encoded_of lim s))
     read_refuses x f = rw (← en) (go (over_in lim n a own s) read_by)
       where
         go : (b : Bool) → record { answer = r; out = o' } ≡ pick b (refused OverLimit o) (read_into (bytes n) o (encoded_of lim s)) → refused_to out x ≡ pick b (refused_to out OverLimit) (asked (encoded_of lim s))
-        go true k = let u : Refused x ≡ Refused OverLimit = sym f ∙ ap (λ (y : Laid). y.answer) k in let z : x ≡ OverLimit = cc in ap (refused_to out) z
+        go true k = let u : Err x ≡ Err OverLimit = sym f ∙ ap (λ (y : Laid). y.answer) k in let z : x ≡ OverLimit = cc in ap (refused_to out) z
         go false k = rw (read_refused lim s (bytes n) o o' r k x f)
 
-    module _ (row : ManifestRow) (f : r ≡ Done row) where
+    module _ (row : ManifestRow) (f : r ≡ Ok row) where
       not_over : over_in lim n a own s ≡ false
       not_over = go (over_in lim n a own s) read_by
         where
           go : (b : Bool) → record { answer = r; out = o' } ≡ pick b (refused OverLimit o) (read_into (bytes n) o (encoded_of lim s)) → b ≡ false
-          go true k = let u : Done row ≡ Refused OverLimit = sym f ∙ ap (λ (y : Laid). y.answer) k in let z : ◌≡◌ {A = ℕ} 0 1 = cc in absurd (omega arith)
+          go true k = let u : Ok row ≡ Err OverLimit = sym f ∙ ap (λ (y : Laid). y.answer) k in let z : ◌≡◌ {A = ℕ} 0 1 = cc in absurd (omega arith)
           go false k = refl
 
       read_in : record { answer = r; out = o' } ≡ read_into (bytes n) o (encoded_of lim s)
@@ -192,7 +187,7 @@ module _ (lim : Limits) (s args : List ℕ) (a : ProjectionConfig) (own : List �
       accepted : Accepted lim s (bytes n) row o'
       accepted = read_accepted lim s (bytes n) o o' r read_in ko row f
 
-      pub read_judged : judged_of lim o' row ≡ Lawful
+      pub read_judged : judged_of lim o' row ≡ Ok tt
       read_judged = accepted_judged lim s (bytes n) row o' accepted
 
       -- the arguments stand on, in front of it
@@ -223,7 +218,7 @@ module _ (lim : Limits) (s args : List ℕ) (a : ProjectionConfig) (own : List �
 
 -- ---- what stands behind the arguments
 
-module _ (lim : Limits) (s args : List ℕ) (a : ProjectionConfig) (own : List ℕ) (w t : Lent) (h : (long_of s || global_over lim.key (length args) a.global_range) ≡ false) (r : Copied) (o : Lent) (e : record { answer = r; out = o } ≡ read_behind lim args a own s w t) where
+module _ (lim : Limits) (s args : List ℕ) (a : ProjectionConfig) (own : List ℕ) (w t : Lent) (h : (long_of s || global_over lim.key (length args) a.global_range) ≡ false) (r : Result ManifestRow Refusal) (o : Lent) (e : record { answer = r; out = o } ≡ read_behind lim args a own s w t) where
   ls : long_of s ≡ false
   ls = (either_false (long_of s) (global_over lim.key (length args) a.global_range) h).0
 
@@ -247,17 +242,17 @@ module _ (lim : Limits) (s args : List ℕ) (a : ProjectionConfig) (own : List �
   laid_fits : enough ≡ true → fits (plus (bytes (length args)) lim.fill) (room_of laid) ≡ true
   laid_fits k = args_laid lim.fill t args (both_true (fits lim.fill (work_room lim w)) (fits (plus (bytes (length args)) lim.fill) (room_of t)) k).1 (write t.pool 0 args) refl
 
-  module _ (row : ManifestRow) (f : r ≡ Done row) where
+  module _ (row : ManifestRow) (f : r ≡ Ok row) where
     done_enough : enough ≡ true
     done_enough = go enough refl
       where
         go : (b : Bool) → enough ≡ b → enough ≡ true
         go true k = k
-        go false k = let u : Done row ≡ Refused NoRoom = sym f ∙ ap (λ (y : Laid). y.answer) (read_short k) in let z : ◌≡◌ {A = ℕ} 0 1 = cc in absurd (omega arith)
+        go false k = let u : Ok row ≡ Err NoRoom = sym f ∙ ap (λ (y : Laid). y.answer) (read_short k) in let z : ◌≡◌ {A = ℕ} 0 1 = cc in absurd (omega arith)
 
     -- what is asked of the rows that are projected, of the list of ids in use and of the tables of the result
     pub done_requires : (u p : ℕ) → (ltb (u / 2) lim.fill.views || ltb p lim.fill.bytes) ≡ false → (a b c d e : ℕ) → a ≡ length w.segments → b ≡ length w.views → c ≡ length w.runs → d ≡ length w.borrows → e ≡ length w.ids
-        → (judged_of lim o row ≡ Lawful) × ((lim.fill.views ≤ u / 2) × ((lim.fill.segments * 12 ≤ a) × (lim.fill.views * 16 ≤ b) × (lim.fill.runs * 3 ≤ c) × (lim.fill.borrows * 9 ≤ d) × (lim.fill.ids * 2 ≤ e) × (lim.fill.bytes ≤ p)))
+        → (judged_of lim o row ≡ Ok tt) × ((lim.fill.views ≤ u / 2) × ((lim.fill.segments * 12 ≤ a) × (lim.fill.views * 16 ≤ b) × (lim.fill.runs * 3 ≤ c) × (lim.fill.borrows * 9 ≤ d) × (lim.fill.ids * 2 ≤ e) × (lim.fill.bytes ≤ p)))
     done_requires u p g b c d i j eb ec ed ei ej =
         let q = either_false (ltb (u / 2) lim.fill.views) (ltb p lim.fill.bytes) g in (
           read_judged lim s args a own lim.fill [] (length args) refl w ls (work_fits done_enough) laid (drop (0 + length args) t.pool) refl (laid_fits done_enough) r o (read_laid done_enough) row f,
@@ -287,11 +282,11 @@ module _ (lim : Limits) (s args : List ℕ) (a : ProjectionConfig) (own : List �
     pub project_list : (ltb (length used / 2) lim.fill.views || ltb (length pool) lim.fill.bytes) ≡ true → refused_to out NoRoom ≡ project_to lim s args a own room w t used pool out
     project_list g = project_short (short_list (fits lim.fill (work_room lim w)) (fits (plus (bytes (length args)) lim.fill) (room_of t)) (ltb (length used / 2) lim.fill.views) (ltb (length pool) lim.fill.bytes) g)
 
-    module _ (g : (ltb (length used / 2) lim.fill.views || ltb (length pool) lim.fill.bytes) ≡ false) (r : Copied) (o : Lent) (e : record { answer = r; out = o } ≡ read_behind lim args a own s w t) where
+    module _ (g : (ltb (length used / 2) lim.fill.views || ltb (length pool) lim.fill.bytes) ≡ false) (r : Result ManifestRow Refusal) (o : Lent) (e : record { answer = r; out = o } ≡ read_behind lim args a own s w t) where
       roomy : enough lim s args a own w t h r o e ≡ true → short_any lim (length args) w t used pool ≡ false
       roomy k = short_none (fits lim.fill (work_room lim w)) (fits (plus (bytes (length args)) lim.fill) (room_of t)) (ltb (length used / 2) lim.fill.views) (ltb (length pool) lim.fill.bytes) k g
 
-      pub project_refused : (x : Refusal) → r ≡ Refused x → refused_to out x ≡ project_to lim s args a own room w t used pool out
+      pub project_refused : (x : Refusal) → r ≡ Err x → refused_to out x ≡ project_to lim s args a own room w t used pool out
       project_refused x f = go (enough lim s args a own w t h r o e) refl
         where
           go : (b : Bool) → enough lim s args a own w t h r o e ≡ b → refused_to out x ≡ project_to lim s args a own room w t used pool out
@@ -299,11 +294,11 @@ module _ (lim : Limits) (s args : List ℕ) (a : ProjectionConfig) (own : List �
               read_refuses lim s args a own room out (length args) refl w (ls lim s args a own w t h r o e) (work_fits lim s args a own w t h r o e k) (laid lim s args a own w t h r o e) (drop (0 + length args) t.pool) refl (laid_fits lim s args a own w t h r o e k) r o (read_laid lim s args a own w t h r o e k) x f
               ∙ project_bytes (roomy k)
           go false k =
-              let u : Refused x ≡ Refused NoRoom = sym f ∙ ap (λ (y : Laid). y.answer) (read_short lim s args a own w t h r o e k) in
+              let u : Err x ≡ Err NoRoom = sym f ∙ ap (λ (y : Laid). y.answer) (read_short lim s args a own w t h r o e k) in
               let z : x ≡ NoRoom = cc in
               ap (refused_to out) z ∙ project_short (short_tables (fits lim.fill (work_room lim w)) (fits (plus (bytes (length args)) lim.fill) (room_of t)) (ltb (length used / 2) lim.fill.views) (ltb (length pool) lim.fill.bytes) k)
 
-      pub project_done : (row : ManifestRow) → r ≡ Done row → projected_to lim room out (config_for o.pool a own row.segments.count) (manifest_in o row) ≡ project_to lim s args a own room w t used pool out
+      pub project_done : (row : ManifestRow) → r ≡ Ok row → projected_to lim room out (config_for o.pool a own row.segments.count) (manifest_in o row) ≡ project_to lim s args a own room w t used pool out
       project_done row f =
           let k = done_enough lim s args a own w t h r o e row f in
           read_projects lim s args a own room out (length args) refl w (ls lim s args a own w t h r o e) (work_fits lim s args a own w t h r o e k) (laid lim s args a own w t h r o e) (drop (0 + length args) t.pool) refl (laid_fits lim s args a own w t h r o e k) r o (read_laid lim s args a own w t h r o e k) row f

@@ -1,4 +1,5 @@
 -- The part of the result tables that a room leaves, and the working memory. Assumes nothing.
+use Rattle.std.specs.Prelude.{None, Option, Some}
 use Prim.Native.Nat.{ℕ, suc, ◌+◌, ◌-◌, ◌*◌, ◌≤◌}
 use mathlib.Core.Path.{◌≡◌, refl, sym, ap, ◌∙◌}
 use mathlib.Core.Bool.{Bool, true, false, not, ◌&&◌, ◌||◌}
@@ -25,8 +26,6 @@ use Rattle.manifest_read.specs.Answer.{work_room}
 use Rattle.segments.specs.Refuses.{range_over}
 use Rattle.project_ranges.specs.Config.{Config}
 use Rattle.project_ranges.specs.Args.{global_over}
-use Rattle.project_ranges.specs.declared.Global.{Global}
-use Rattle.project_ranges.specs.declared.Global.TheVariants.{Unset, Set}
 use Rattle.project.specs.Project.{projected_of}
 use Rattle.encoded_project.specs.Project.{given_to, projected_to}
 
@@ -76,25 +75,16 @@ module _ (rows segments : ℕ) where
 
 -- ---- the form of the call
 
-module _ (most long n : ℕ) (g : Global) where
+module _ (most long n : ℕ) (g : Option Range) where
   pub call_long : suc 0x1_0000 ≤ long → true ≡ (ltb 0x1_0000 long || global_over most n g)
   call_long h = rw (lt-ltb 0x1_0000 long h)
 
   module _ (h : long ≤ 0x1_0000) where
-    pub call_unset : g ≡ Unset → false ≡ (ltb 0x1_0000 long || global_over most n g)
+    pub call_unset : g ≡ None → false ≡ (ltb 0x1_0000 long || global_over most n g)
     call_unset e = rw (le-ltb 0x1_0000 long h, e)
 
-    pub call_set : (r : Range) (b : Bool) → g ≡ Set r → b ≡ range_over most n r → b ≡ (ltb 0x1_0000 long || global_over most n g)
+    pub call_set : (r : Range) (b : Bool) → g ≡ Some r → b ≡ range_over most n r → b ≡ (ltb 0x1_0000 long || global_over most n g)
     call_set r b e k = rw (le-ltb 0x1_0000 long h, e) k
-
--- ---- the list of ids in use, and the pool of the result
-
-module _ (used views pool most : ℕ) where
-  pub list_short : suc used ≤ views → true ≡ (ltb used views || ltb pool most)
-  list_short h = rw (lt-ltb used views h)
-
-  pub list_long : views ≤ used → ltb pool most ≡ (ltb used views || ltb pool most)
-  list_long h = rw (le-ltb used views h)
 
 -- ---- room behind the arguments
 
@@ -106,13 +96,6 @@ module _ (room from most : Fill) (a : Bool) (e : a ≡ fits from room) where
   behind_left b left h k f = f ∙ ap (fits most) k ∙ fits_left room from most (under from room (sym e ∙ h))
 
 -- ---- the working tables
-
-module _ (a x y : Bool) (e : a ≡ x) where
-  pub tables_work : a ≡ false → false ≡ (x && y)
-  tables_work h = rw (sym e ∙ h)
-
-  pub tables_behind : a ≡ true → (b : Bool) → b ≡ y → b ≡ (x && y)
-  tables_behind h b f = rw (sym e ∙ h) f
 
 pub both_true : (a b : Bool) → (a && b) ≡ true → (a ≡ true) × (b ≡ true)
 both_true true true e = (refl, refl)

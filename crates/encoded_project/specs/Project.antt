@@ -1,5 +1,5 @@
 -- Projection of an encoded manifest.
-use Rattle.std.specs.Prelude.{ℕ, ◌*◌, ◌/◌, Bool, false, not, ◌||◌, List, [], ◌∷◌, ltb, length, take}
+use Rattle.std.specs.Prelude.{ℕ, ◌*◌, ◌/◌, Bool, false, not, ◌||◌, List, [], ◌∷◌, ltb, length, take, Err, Ok, Result, None, Option, Some}
 use Rattle.keys.specs.Pick.{pick}
 use Rattle.records.specs.Model.{Manifest}
 use Rattle.records.specs.Fill.{plus, bytes, fits, manifest_fill}
@@ -8,36 +8,28 @@ use Rattle.records.specs.Refusals.{refusal}
 use Rattle.records.specs.declared.Fill.{Fill}
 use Rattle.records.specs.declared.Limits.{Limits}
 use Rattle.records.specs.declared.Refusal.{Refusal}
-use Rattle.records.specs.declared.Refusal.TheVariants.{OverLimit, NoRoom, EmptyRange, OwnEmpty, OwnOutside, MaskBit}
+use Rattle.records.specs.declared.Refusal.TheVariants.{OverLimit, NoRoom, EmptyRange, MaskBit}
 use Rattle.copy.specs.Copy.{room_of, no_room}
 use Rattle.segments.specs.Prefixes.{prefixes}
 use Rattle.msgpack.specs.Skip.{whole_of}
-use Rattle.msgpack.specs.declared.Whole.{Whole}
-use Rattle.msgpack.specs.declared.Whole.TheVariants.{Good, Bad}
 use Rattle.manifest_write.specs.Bytes.{manifest_bytes}
 use Rattle.manifest_write.specs.Answer.{put_of, Outcome as Put}
-use Rattle.manifest_write.specs.declared.Written.{Written}
-use Rattle.manifest_write.specs.declared.Written.TheVariants as write
 use Rattle.manifest_values.specs.Read.{Got, is, wrong, manifest_at}
 use Rattle.project_ranges.specs.Config.{Config, names_count, refuses10, place10}
 use Rattle.project_ranges.specs.Own.{own_fault}
 use Rattle.project_ranges.specs.Args.{config_in, counted, global_over, config_over, global_empty}
-use Rattle.project_ranges.specs.declared.Fault.{Fault}
-use Rattle.project_ranges.specs.declared.Fault.TheVariants.{None, Empty, Outside}
 use Rattle.project_ranges.specs.declared.ProjectionConfig.{ProjectionConfig}
 use Rattle.project.specs.Project.{projected_of}
 use Rattle.encoded.specs.Encoded.{on, encoded_of, long_of, short_of}
-use Rattle.encoded_project.specs.declared.ProjectedTo.{ProjectedTo}
-use Rattle.encoded_project.specs.declared.ProjectedTo.TheVariants.{Done, Refused}
 
 -- an answer, and what the lent slice for the encoded result holds
 pub record Outcome : Type 0 where
-  pub answer : ProjectedTo
+  pub answer : Result (ℕ × ℕ) Refusal
   pub out : List ℕ
 
 -- "Each returns its number and place (0 where none is named) and changes no lent output."
 abbrev pub refused_to : List ℕ → Refusal → Outcome
-refused_to out r = record { answer = Refused r; out = out }
+refused_to out r = record { answer = Err r; out = out }
 
 -- ---- what is asked of a manifest with so many segments
 
@@ -50,9 +42,9 @@ abbrev pub over_got : (Manifest → Bool) → Got Manifest → Bool
 over_got over (wrong q) = false
 over_got over (is m p) = over m
 
-abbrev pub over_whole : (Manifest → Bool) → List ℕ → Whole → Bool
-over_whole over s (Bad q) = false
-over_whole over s Good = over_got over (manifest_at s 0)
+abbrev pub over_whole : (Manifest → Bool) → List ℕ → Result Unit ℕ → Bool
+over_whole over s (Err q) = false
+over_whole over s (Ok _) = over_got over (manifest_at s 0)
 
 unfoldable pub over_in : Limits → ℕ → ProjectionConfig → List ℕ → List ℕ → Bool
 over_in lim n c own s = over_whole (λ m. config_over lim.key n (length m.segments) c own) s (whole_of s)
@@ -60,9 +52,9 @@ over_in lim n c own s = over_whole (λ m. config_over lim.key n (length m.segmen
 -- ---- the result
 
 -- what came of writing it, where the mask names so many segments
-abbrev pub wrote_by : ℕ → Written → ProjectedTo
-wrote_by names (write.Done n) = Done names n
-wrote_by names (write.Refused r) = Refused r
+abbrev pub wrote_by : ℕ → Result ℕ Refusal → Result (ℕ × ℕ) Refusal
+wrote_by names (Ok n) = Ok (names, n)
+wrote_by names (Err r) = Err r
 
 abbrev pub wrote : ℕ → Put → Outcome
 wrote names w = record { answer = wrote_by names w.answer; out = w.out }
@@ -75,10 +67,9 @@ given_to lim room out names result =
     (wrote names (put_of (manifest_bytes result) out))
 
 -- "8 / 9 | own range empty / not contained"
-abbrev pub unless_fault : List ℕ → Fault → Outcome → Outcome
+abbrev pub unless_fault : List ℕ → Option Refusal → Outcome → Outcome
 unless_fault out None given = given
-unless_fault out (Empty place) given = refused_to out (OwnEmpty place)
-unless_fault out (Outside place) given = refused_to out (OwnOutside place)
+unless_fault out (Some r) given = refused_to out r
 
 -- of a lawful manifest: 5, 10, then 8 and 9, then 4
 unfoldable pub projected_to : Limits → Fill → List ℕ → Config → Manifest → Outcome
@@ -103,6 +94,6 @@ project_to lim s args c own room w t used pool out =
     (on (refused_to out) (λ m. projected_to lim room out (config_for args c own (length m.segments)) m) (encoded_of lim s))))
 
 -- the number and the values of each answer
-abbrev pub projected : ProjectedTo → List ℕ
-projected (Done names n) = 0 ∷ names ∷ n ∷ []
-projected (Refused r) = refusal r
+abbrev pub projected : Result (ℕ × ℕ) Refusal → List ℕ
+projected (Ok (names, n)) = 0 ∷ names ∷ n ∷ []
+projected (Err r) = refusal r

@@ -11,14 +11,13 @@ ghost use Rattle.project_ranges.specs.Args.{config_over};
 ghost use Rattle.encoded_project.specs.Project.{over_got};
 ghost use Rattle.encoded_project.specs.Steps.{kept_at, read_behind};
 
-use copy::{Copied, copy_at};
-use lawful::{Judged, lawful};
-use manifest_rows::{GotManifest, fill_manifest};
+use copy::copy_at;
+use lawful::lawful;
+use manifest_rows::fill_manifest;
 use measure::{fits_in, left_of};
-use msgpack::Whole;
 use project_ranges::{ProjectionConfig, config_over};
 use records::{Fill, Limits, ManifestRow, Refusal};
-use tables::put_bytes;
+use tables::put;
 
 // Judges rows, of which there are `f`, then copies what is lawful behind what fills `c`.
 fn keep_at(
@@ -38,34 +37,31 @@ fn keep_at(
     in_ids: &mut [u64],
     in_pool: &mut [u8],
     c: Fill,
-) -> Copied
+) -> Result<ManifestRow, Refusal>
     requires { fits c (room_of (lent in_segments.old in_views.old in_runs.old in_borrows.old in_ids.old in_pool.old)) ≡ true }
     ensures { record { answer = result; out = (lent in_segments.new in_views.new in_runs.new in_borrows.new in_ids.new in_pool.new) } ≡ kept_at lim f c (lent segments.now views.now runs.now borrows.now ids.now s.now) m (lent in_segments.old in_views.old in_runs.old in_borrows.old in_ids.old in_pool.old) }
 {
-    let most = lim.fill;
-    if fits_in(f, most) {
-        return match lawful(lim, segments, views, runs, borrows, ids, s, m) {
-            Judged::Breaks(rule) => Copied::Refused(Refusal::Unlawful(rule)),
-            Judged::Lawful => copy_at(
-                lim,
-                segments,
-                views,
-                runs,
-                borrows,
-                ids,
-                s,
-                m,
-                in_segments,
-                in_views,
-                in_runs,
-                in_borrows,
-                in_ids,
-                in_pool,
-                c,
-            ),
-        };
+    if !fits_in(f, lim.fill) {
+        return Err(Refusal::Unlawful(1));
     }
-    Copied::Refused(Refusal::Unlawful(1))
+    lawful(lim, segments, views, runs, borrows, ids, s, m).map_err(Refusal::Unlawful)?;
+    copy_at(
+        lim,
+        segments,
+        views,
+        runs,
+        borrows,
+        ids,
+        s,
+        m,
+        in_segments,
+        in_views,
+        in_runs,
+        in_borrows,
+        in_ids,
+        in_pool,
+        c,
+    )
 }
 
 // Reads the rows, judges the own ranges that count, over `n` bytes of arguments, then the rows.
@@ -87,38 +83,34 @@ fn read_rows(
     in_ids: &mut [u64],
     in_pool: &mut [u8],
     c: Fill,
-) -> Copied
+) -> Result<ManifestRow, Refusal>
     requires in_pool_value { fits c (room_of (lent in_segments.old in_views.old in_runs.old in_borrows.old in_ids.old in_pool.old)) ≡ true }
     requires s_value { fits lim.fill (work_room lim (lent segments.old views.old runs.old borrows.old ids.old s.now)) ≡ true }
     ensures { record { answer = result; out = (lent in_segments.new in_views.new in_runs.new in_borrows.new in_ids.new in_pool.new) } ≡ pick (over_got (λ m. config_over lim.key n (length m.segments) a own.now) (manifest_at s.now 0)) (refused OverLimit (lent in_segments.old in_views.old in_runs.old in_borrows.old in_ids.old in_pool.old)) (by_record lim (λ m. given_at lim c m (lent in_segments.old in_views.old in_runs.old in_borrows.old in_ids.old in_pool.old)) (lent in_segments.old in_views.old in_runs.old in_borrows.old in_ids.old in_pool.old) (manifest_at s.now 0)) }
 {
-    match fill_manifest(s, segments, views, runs, borrows, ids) {
-        GotManifest::Is(row, f, _) => {
-            let w = row.segments;
-            if config_over(lim.key, n, w.count, a, own) {
-                return Copied::Refused(Refusal::OverLimit);
-            }
-            keep_at(
-                lim,
-                segments,
-                views,
-                runs,
-                borrows,
-                ids,
-                s,
-                row,
-                f,
-                in_segments,
-                in_views,
-                in_runs,
-                in_borrows,
-                in_ids,
-                in_pool,
-                c,
-            )
-        }
-        GotManifest::Wrong(w) => Copied::Refused(Refusal::NotTheRecord(w)),
+    let filled = fill_manifest(s, segments, views, runs, borrows, ids);
+    let (row, f, _) = filled.map_err(Refusal::NotTheRecord)?;
+    if config_over(lim.key, n, row.segments.count, a, own) {
+        return Err(Refusal::OverLimit);
     }
+    keep_at(
+        lim,
+        segments,
+        views,
+        runs,
+        borrows,
+        ids,
+        s,
+        row,
+        f,
+        in_segments,
+        in_views,
+        in_runs,
+        in_borrows,
+        in_ids,
+        in_pool,
+        c,
+    )
 }
 
 // ---- the working tables
@@ -135,11 +127,7 @@ fn has_behind(most: Fill, n: usize, room: Fill) -> bool
         ids: 0,
         bytes: n,
     };
-    if fits_in(from, room) {
-        let left = left_of(room, from);
-        return fits_in(most, left);
-    }
-    false
+    fits_in(from, room) && fits_in(most, left_of(room, from))
 }
 
 // Whether tables of so many words have room for any manifest within L1: those that it is read into, and those that hold it behind `n` bytes.
@@ -160,14 +148,13 @@ fn has_tables(
 ) -> bool
     ensures { result ≡ (fits lim.fill (record { segments = segments / 12; views = views / 16; runs = runs / 3; borrows = borrows / 9; ids = ids / 2; bytes = lim.fill.bytes }) && fits (plus (bytes n) lim.fill) (record { segments = in_segments / 12; views = in_views / 16; runs = in_runs / 3; borrows = in_borrows / 9; ids = in_ids / 2; bytes = in_pool })) }
 {
-    let most = lim.fill;
     let work = Fill {
         segments: segments / 12,
         views: views / 16,
         runs: runs / 3,
         borrows: borrows / 9,
         ids: ids / 2,
-        bytes: most.bytes,
+        bytes: lim.fill.bytes,
     };
     let room = Fill {
         segments: in_segments / 12,
@@ -177,10 +164,7 @@ fn has_tables(
         ids: in_ids / 2,
         bytes: in_pool,
     };
-    if fits_in(most, work) {
-        return has_behind(most, n, room);
-    }
-    false
+    fits_in(lim.fill, work) && has_behind(lim.fill, n, room)
 }
 
 // Lays the arguments at the front and reads a manifest behind them, where there is room for any within L1.
@@ -202,11 +186,11 @@ pub fn read_behind(
     in_borrows: &mut [u64],
     in_ids: &mut [u64],
     in_pool: &mut [u8],
-) -> Copied
+) -> Result<ManifestRow, Refusal>
     ensures { record { answer = result; out = (lent in_segments.new in_views.new in_runs.new in_borrows.new in_ids.new in_pool.new) } ≡ read_behind lim args.now a own.now s.now (lent segments.old views.old runs.old borrows.old ids.old []) (lent in_segments.old in_views.old in_runs.old in_borrows.old in_ids.old in_pool.old) }
 {
     let n = args.len();
-    if has_tables(
+    if !has_tables(
         lim,
         n,
         segments.len(),
@@ -221,37 +205,35 @@ pub fn read_behind(
         in_ids.len(),
         in_pool.len(),
     ) {
-        let end = put_bytes(args, in_pool, 0);
-        let from = Fill {
-            segments: 0,
-            views: 0,
-            runs: 0,
-            borrows: 0,
-            ids: 0,
-            bytes: n,
-        };
-        return match msgpack::well_formed(s) {
-            Whole::Good => read_rows(
-                lim,
-                s,
-                n,
-                a,
-                own,
-                segments,
-                views,
-                runs,
-                borrows,
-                ids,
-                in_segments,
-                in_views,
-                in_runs,
-                in_borrows,
-                in_ids,
-                in_pool,
-                from,
-            ),
-            Whole::Bad(w) => Copied::Refused(Refusal::NotWellFormed(w)),
-        };
+        return Err(Refusal::NoRoom);
     }
-    Copied::Refused(Refusal::NoRoom)
+    put(args, in_pool, 0);
+    let from = Fill {
+        segments: 0,
+        views: 0,
+        runs: 0,
+        borrows: 0,
+        ids: 0,
+        bytes: n,
+    };
+    msgpack::well_formed(s).map_err(Refusal::NotWellFormed)?;
+    read_rows(
+        lim,
+        s,
+        n,
+        a,
+        own,
+        segments,
+        views,
+        runs,
+        borrows,
+        ids,
+        in_segments,
+        in_views,
+        in_runs,
+        in_borrows,
+        in_ids,
+        in_pool,
+        from,
+    )
 }

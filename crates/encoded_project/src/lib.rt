@@ -10,30 +10,23 @@ ghost use Rattle.std.specs.Prelude.{◌≡◌, ◌||◌, ◌/◌, ltb};
 ghost use Rattle.project_ranges.specs.Args.{global_over};
 
 pub use behind_arguments::read_behind;
+use keys::Range;
 use manifest_read::LONGEST;
-use project_ranges::Global;
 use records::{Limits, Refusal};
 pub use result_bytes::project_within;
 use segments::range_over;
 
-// How many segments the mask names, and how many bytes the result has; or why there is none.
-#[derive(Clone, Copy)]
-pub enum ProjectedTo {
-    Done(usize, usize),
-    Refused(Refusal),
-}
-
 // Whether the input of `long` bytes or a bound of the global range is over its limit, or a bound points outside `n` bytes.
 // inner
-pub fn call_over(most: usize, long: usize, n: usize, g: Global) -> bool
+pub fn call_over(most: usize, long: usize, n: usize, g: Option<Range>) -> bool
     ensures { result ≡ (ltb 0x1_0000 long || global_over most n g) }
 {
     if LONGEST < long {
         return true;
     }
     match g {
-        Global::Unset => false,
-        Global::Set(r) => range_over(most, n, r),
+        None => false,
+        Some(r) => range_over(most, n, r),
     }
 }
 
@@ -42,9 +35,5 @@ pub fn call_over(most: usize, long: usize, n: usize, g: Global) -> bool
 pub fn lacks_list(lim: Limits, used: usize, pool: usize) -> bool
     ensures { result ≡ (ltb (used / 2) lim.fill.views || ltb pool lim.fill.bytes) }
 {
-    let most = lim.fill;
-    if used / 2 < most.views {
-        return true;
-    }
-    pool < most.bytes
+    used / 2 < lim.fill.views || pool < lim.fill.bytes
 }

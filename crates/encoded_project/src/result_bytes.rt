@@ -4,7 +4,6 @@ ghost use Rattle.keys.specs.Pick.{pick};
 ghost use Rattle.records.specs.Decode.{manifest_in};
 ghost use Rattle.records.specs.Fill.{bytes};
 ghost use Rattle.lawful.specs.Judge.{judged_of};
-ghost use Rattle.lawful.specs.declared.Judged.TheVariants.{Lawful};
 ghost use Rattle.copy.specs.Copy.{room_of};
 ghost use Rattle.manifest_write.specs.Bytes.{manifest_bytes};
 ghost use Rattle.manifest_write.specs.Answer.{put_of};
@@ -12,12 +11,11 @@ ghost use Rattle.manifest_rows.specs.Stored.{lent};
 ghost use Rattle.project_ranges.specs.Args.{config_in};
 ghost use Rattle.encoded_project.specs.Project.{config_for, wrote, projected_to};
 
-use crate::ProjectedTo;
 use encoded::least;
-use manifest_write::{Written, write_judged};
-use project::{ProjectedAs, projected_judged};
+use manifest_write::write_judged;
+use project::projected_judged;
 use project_ranges::ProjectionConfig;
-use records::{Fill, Limits, ManifestRow};
+use records::{Fill, Limits, ManifestRow, Refusal};
 
 // Writes the result.
 fn write_to(
@@ -30,13 +28,11 @@ fn write_to(
     m: ManifestRow,
     names: usize,
     out: &mut [u8],
-) -> ProjectedTo
+) -> Result<(usize, usize), Refusal>
     ensures { record { answer = result; out = out.new } ≡ wrote names (put_of (manifest_bytes (manifest_in (lent segments.now views.now runs.now borrows.now ids.now pool.now) m)) out.old) }
 {
-    match write_judged(segments, views, runs, borrows, ids, pool, m, out) {
-        Written::Done(n) => ProjectedTo::Done(names, n),
-        Written::Refused(x) => ProjectedTo::Refused(x),
-    }
+    let n = write_judged(segments, views, runs, borrows, ids, pool, m, out)?;
+    Ok((names, n))
 }
 
 // Projects a lawful manifest into tables that leave just the room there is, and writes the result.
@@ -59,12 +55,12 @@ fn project_into(
     ids: &mut [u64],
     pool: &mut [u8],
     out: &mut [u8],
-) -> ProjectedTo
-    requires m_value { judged_of lim (lent in_segments.now in_views.now in_runs.now in_borrows.now in_ids.now in_pool.now) m ≡ Lawful }
+) -> Result<(usize, usize), Refusal>
+    requires m_value { judged_of lim (lent in_segments.now in_views.now in_runs.now in_borrows.now in_ids.now in_pool.now) m ≡ Ok tt }
     requires views_in_bounds { lim.fill.views ≤ length used.old / 2 }
     ensures { record { answer = result; out = out.new } ≡ projected_to lim (room_of (lent segments.old views.old runs.old borrows.old ids.old pool.old)) out.old (config_in in_pool.now c own.now) (manifest_in (lent in_segments.now in_views.now in_runs.now in_borrows.now in_ids.now in_pool.now) m) }
 {
-    match projected_judged(
+    let (names, row) = projected_judged(
         lim,
         in_segments,
         in_views,
@@ -82,12 +78,8 @@ fn project_into(
         borrows,
         ids,
         pool,
-    ) {
-        ProjectedAs::Done(names, row) => write_to(
-            segments, views, runs, borrows, ids, pool, row, names, out,
-        ),
-        ProjectedAs::Refused(x) => ProjectedTo::Refused(x),
-    }
+    )?;
+    write_to(segments, views, runs, borrows, ids, pool, row, names, out)
 }
 
 // How many of `rows` own ranges count: one for the unsegmented tree and one for each of so many segments.
@@ -122,21 +114,19 @@ pub fn project_within(
     ids: &mut [u64],
     pool: &mut [u8],
     out: &mut [u8],
-) -> ProjectedTo
-    requires m_value { judged_of lim (lent in_segments.now in_views.now in_runs.now in_borrows.now in_ids.now in_pool.now) m ≡ Lawful }
+) -> Result<(usize, usize), Refusal>
+    requires m_value { judged_of lim (lent in_segments.now in_views.now in_runs.now in_borrows.now in_ids.now in_pool.now) m ≡ Ok tt }
     requires views_in_bounds { lim.fill.views ≤ length used.old / 2 }
     requires segments_in_bounds { (lim.fill.segments * 12 ≤ length segments.old) × (lim.fill.views * 16 ≤ length views.old) × (lim.fill.runs * 3 ≤ length runs.old) × (lim.fill.borrows * 9 ≤ length borrows.old) × (lim.fill.ids * 2 ≤ length ids.old) × (lim.fill.bytes ≤ length pool.old) }
     ensures { record { answer = result; out = out.new } ≡ projected_to lim room out.old (config_for in_pool.now c own.now m.segments.count) (manifest_in (lent in_segments.now in_views.now in_runs.now in_borrows.now in_ids.now in_pool.now) m) }
 {
-    let w = m.segments;
-    let k = count_own(own.len() / 6, w.count) * 6;
-    let most = lim.fill;
-    let a = least(most.segments, room.segments) * 12;
-    let b = least(most.views, room.views) * 16;
-    let d = least(most.runs, room.runs) * 3;
-    let e = least(most.borrows, room.borrows) * 9;
-    let f = least(most.ids, room.ids) * 2;
-    let g = least(most.bytes, room.bytes);
+    let k = count_own(own.len() / 6, m.segments.count) * 6;
+    let a = least(lim.fill.segments, room.segments) * 12;
+    let b = least(lim.fill.views, room.views) * 16;
+    let d = least(lim.fill.runs, room.runs) * 3;
+    let e = least(lim.fill.borrows, room.borrows) * 9;
+    let f = least(lim.fill.ids, room.ids) * 2;
+    let g = least(lim.fill.bytes, room.bytes);
     project_into(
         lim,
         in_segments,

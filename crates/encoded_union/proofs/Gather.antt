@@ -1,4 +1,5 @@
 -- Sources read one behind the other. Assumes nothing.
+use Rattle.std.specs.Prelude.{Err, Ok, Result}
 use Prim.Native.Nat.{ℕ, zero, suc, ◌+◌, ◌-◌, ◌≤◌, ◌<◌}
 use mathlib.Core.Path.{◌≡◌, refl, sym, ap, subst, ◌∙◌}
 use mathlib.Core.Bool.{Bool, true, false, ◌||◌}
@@ -26,16 +27,12 @@ use Rattle.records.specs.declared.Place.{Place}
 use Rattle.records.specs.declared.Refusal.{Refusal}
 use Rattle.measure.proofs.Fits.{Under, says_fits, under}
 use Rattle.copy.specs.Copy.{room_of, laid_at, Outcome as Laid}
-use Rattle.copy.specs.declared.Copied.{Copied}
-use Rattle.copy.specs.declared.Copied.TheVariants as copied
 use Rattle.manifest_write.specs.Answer.{Outcome}
 use Rattle.manifest_read.specs.Answer.{work_room, read_at_of}
 use Rattle.encoded.specs.Encoded.{Encoded, holds, refused, on, encoded_of, long_of}
 use Rattle.standing.proofs.Reading.{read_into, read_is}
 use Rattle.encoded_union.specs.Union.{start_of, piece_of, bad_piece, some_bad, unless_unread, behind}
 use Rattle.encoded_union.specs.Steps.{place_of, source_words, Step, source_into}
-use Rattle.encoded_union.specs.declared.Reading.{Reading}
-use Rattle.encoded_union.specs.declared.Reading.TheVariants.{Done, Refused}
 
 -- ---- cursors
 
@@ -168,33 +165,33 @@ module _ (s ends piece : List ℕ) (k : ℕ) (e : Place) (h : piece ≡ part_of 
   one_is lim c o t b p q u x f a =
       f ∙ ap (λ (y : Place). source_into c o t b y u (encoded_of lim piece)) a ∙ ap (λ (y : List ℕ). source_into c o t b q u (encoded_of lim y)) part_is
 
-step_same : (a : Reading) (o o' : Lent) (t t' : List ℕ) → o ≡ o' → t ≡ t' → ◌≡◌ {A = Step} (record { answer = a; out = o; rows = t }) (record { answer = a; out = o'; rows = t' })
+step_same : (a : Result Unit Refusal) (o o' : Lent) (t t' : List ℕ) → o ≡ o' → t ≡ t' → ◌≡◌ {A = Step} (record { answer = a; out = o; rows = t }) (record { answer = a; out = o'; rows = t' })
 step_same a o o' t t' e f = rw (e, f)
 
 module _ (lim : Limits) (s : List ℕ) (c : Fill) (w o : Lent) (ko : fits (plus c lim.fill) (room_of o) ≡ true) where
-  module _ (ls : long_of s ≡ false) (kw : fits lim.fill (work_room lim w) ≡ true) (r : Copied) (o' : Lent) (e : record { answer = r; out = o' } ≡ read_at_of lim s w o c) (b : ℕ) (p : Place) (u : Uuid) (t : List ℕ) where
+  module _ (ls : long_of s ≡ false) (kw : fits lim.fill (work_room lim w) ≡ true) (r : Result ManifestRow Refusal) (o' : Lent) (e : record { answer = r; out = o' } ≡ read_at_of lim s w o c) (b : ℕ) (p : Place) (u : Uuid) (t : List ℕ) where
     piece_is : record { answer = r; out = o' } ≡ read_into c o (encoded_of lim s)
     piece_is = e ∙ read_is lim c o ko s w ls kw
 
-    pub piece_done : (row : ManifestRow) → r ≡ copied.Done row → (t' : List ℕ) → t' ≡ write t b (source_words row p u) → record { answer = Done; out = o'; rows = t' } ≡ source_into c o t b p u (encoded_of lim s)
+    pub piece_done : (row : ManifestRow) → r ≡ Ok row → (t' : List ℕ) → t' ≡ write t b (source_words row p u) → record { answer = Ok tt; out = o'; rows = t' } ≡ source_into c o t b p u (encoded_of lim s)
     piece_done row f t' g = go (encoded_of lim s) piece_is
       where
-        go : (x : Encoded) → record { answer = r; out = o' } ≡ read_into c o x → record { answer = Done; out = o'; rows = t' } ≡ source_into c o t b p u x
+        go : (x : Encoded) → record { answer = r; out = o' } ≡ read_into c o x → record { answer = Ok tt; out = o'; rows = t' } ≡ source_into c o t b p u x
         go (holds m) k =
-            let v : copied.Done row ≡ copied.Done (manifest_row_at c m) = sym f ∙ ap (λ (y : Laid). y.answer) k in
+            let v : Ok row ≡ Ok (manifest_row_at c m) = sym f ∙ ap (λ (y : Laid). y.answer) k in
             let z : row ≡ manifest_row_at c m = cc in
-            step_same Done o' (laid_at c o (layout_at c m)) t' (write t b (source_words (manifest_row_at c m) p u)) (ap (λ (y : Laid). y.out) k) (g ∙ ap (λ (y : ManifestRow). write t b (source_words y p u)) z)
-        go (refused y) k = let v : copied.Done row ≡ copied.Refused y = sym f ∙ ap (λ (y : Laid). y.answer) k in let z : ◌≡◌ {A = ℕ} 0 1 = cc in absurd (omega arith)
+            step_same (Ok tt) o' (laid_at c o (layout_at c m)) t' (write t b (source_words (manifest_row_at c m) p u)) (ap (λ (y : Laid). y.out) k) (g ∙ ap (λ (y : ManifestRow). write t b (source_words y p u)) z)
+        go (refused y) k = let v : Ok row ≡ Err y = sym f ∙ ap (λ (y : Laid). y.answer) k in let z : ◌≡◌ {A = ℕ} 0 1 = cc in absurd (omega arith)
 
-    pub piece_refused : (x : Refusal) → r ≡ copied.Refused x → record { answer = Refused x; out = o'; rows = t } ≡ source_into c o t b p u (encoded_of lim s)
+    pub piece_refused : (x : Refusal) → r ≡ Err x → record { answer = Err x; out = o'; rows = t } ≡ source_into c o t b p u (encoded_of lim s)
     piece_refused x f = go (encoded_of lim s) piece_is
       where
-        go : (y : Encoded) → record { answer = r; out = o' } ≡ read_into c o y → record { answer = Refused x; out = o'; rows = t } ≡ source_into c o t b p u y
-        go (holds m) k = let v : copied.Refused x ≡ copied.Done (manifest_row_at c m) = sym f ∙ ap (λ (y : Laid). y.answer) k in let z : ◌≡◌ {A = ℕ} 0 1 = cc in absurd (omega arith)
+        go : (y : Encoded) → record { answer = r; out = o' } ≡ read_into c o y → record { answer = Err x; out = o'; rows = t } ≡ source_into c o t b p u y
+        go (holds m) k = let v : Err x ≡ Ok (manifest_row_at c m) = sym f ∙ ap (λ (y : Laid). y.answer) k in let z : ◌≡◌ {A = ℕ} 0 1 = cc in absurd (omega arith)
         go (refused y) k =
-            let v : copied.Refused x ≡ copied.Refused y = sym f ∙ ap (λ (y : Laid). y.answer) k in
+            let v : Err x ≡ Err y = sym f ∙ ap (λ (y : Laid). y.answer) k in
             let z : x ≡ y = cc in
-            ap (λ (q : Refusal). record { answer = Refused q; out = o'; rows = t }) z ∙ step_same (Refused y) o' o t t (ap (λ (y : Laid). y.out) k) refl
+            ap (λ (q : Refusal). record { answer = Err q; out = o'; rows = t }) z ∙ step_same (Err y) o' o t t (ap (λ (y : Laid). y.out) k) refl
 
 -- ---- the form of the call
 

@@ -1,4 +1,5 @@
 -- A source's row reads back, and what stands before a written row stands on. Assumes nothing.
+use Rattle.std.specs.Prelude.{None, Option, Some}
 use Prim.Native.Nat.{ℕ, ◌+◌, ◌-◌, ◌≤◌}
 use mathlib.Core.Path.{◌≡◌, refl, ap, ◌∙◌}
 use mathlib.Core.Bool.{true}
@@ -11,10 +12,6 @@ use lib.Seq.{length-take-le, take-add, take-append-add, drop-append-le, take-app
 use borrow.Author.Tests.{le-leb}
 use Rattle.keys.specs.Pool.{part_of}
 use Rattle.ids.specs.declared.Uuid.{Uuid}
-use Rattle.ids.specs.declared.ViewMark.{ViewMark}
-use Rattle.ids.specs.declared.ViewMark.TheVariants as view_marks
-use Rattle.ids.specs.declared.SstMark.{SstMark}
-use Rattle.ids.specs.declared.SstMark.TheVariants as sst_marks
 use Rattle.tables.specs.Layout.{write}
 use Rattle.tables.proofs.Holds.{Holds, holds_at, holds_head, holds_word}
 use Rattle.records.specs.Model.{Manifest}
@@ -23,8 +20,6 @@ use Rattle.records.specs.Words.{tree_words, view_mark_cell, sst_mark_cell}
 use Rattle.records.specs.Decode.{Lent, bytes_in, manifest_in}
 use Rattle.records.specs.declared.Limits.{Limits}
 use Rattle.records.specs.declared.ManifestRow.{ManifestRow}
-use Rattle.records.specs.declared.Name.{Name}
-use Rattle.records.specs.declared.Name.TheVariants.{Absent, Named}
 use Rattle.records.specs.declared.Place.{Place}
 use Rattle.records.proofs.Rows.{view_mark_back, sst_mark_back}
 use Rattle.records.specs.Fill.{manifest_fill}
@@ -38,6 +33,8 @@ use Rattle.unite_sources.specs.Rows.{manifest_at_word, source_at_word}
 use Rattle.unite_judge.specs.Judging.{codes_known, source_judged}
 use Rattle.encoded_union.specs.Union.{bare_of}
 use Rattle.encoded_union.specs.Steps.{name_cell, source_words}
+use Rattle.ids.specs.declared.ViewId.{ViewId}
+use Rattle.ids.specs.declared.SstId.{SstId}
 
 -- ---- in one table
 
@@ -96,21 +93,21 @@ pub bare_judged : (lim : Limits) (l : Lent) (m : ManifestRow) → judged_of lim 
 unfolding judged_of l1_of placed within manifest_in manifest_fill all_views all_runs l2_of l3_of l4_of l5_of
 bare_judged lim l m = refl
 
-name_back : (x : Name) → optional Absent Named (name_cell x).code (record { at = (name_cell x).a; len = (name_cell x).b }) ≡ x
-name_back Absent = refl
-name_back (Named p) = refl
+name_back : (x : Option Place) → optional None Some (name_cell x).code (record { at = (name_cell x).a; len = (name_cell x).b }) ≡ x
+name_back None = refl
+name_back (Some p) = refl
 
-view_known : (x : ViewMark) → opened (view_mark_cell x).code true ≡ true
-view_known view_marks.None = refl
-view_known (view_marks.Some x) = refl
+view_known : (x : Option ViewId) → opened (view_mark_cell x).code true ≡ true
+view_known None = refl
+view_known (Some x) = refl
 
-sst_known : (x : SstMark) → opened (sst_mark_cell x).code true ≡ true
-sst_known sst_marks.None = refl
-sst_known (sst_marks.Some x) = refl
+sst_known : (x : Option SstId) → opened (sst_mark_cell x).code true ≡ true
+sst_known None = refl
+sst_known (Some x) = refl
 
-name_known : (x : Name) → opened (name_cell x).code true ≡ true
-name_known Absent = refl
-name_known (Named p) = refl
+name_known : (x : Option Place) → opened (name_cell x).code true ≡ true
+name_known None = refl
+name_known (Some p) = refl
 
 -- a source whose path stands in the pool
 abbrev pub made : Lent → Manifest → Place → Uuid → Source

@@ -1,4 +1,5 @@
 -- THE READING LOOP: all sources so far stand in the tables and are judged. Assumes nothing.
+use Rattle.std.specs.Prelude.{Err, Ok, Result}
 use Prim.Native.Nat.{ℕ, zero, suc, ◌+◌, ◌-◌, ◌*◌, ◌≤◌, ◌<◌}
 use mathlib.Core.Path.{◌≡◌, refl, sym, ap, subst, ◌∙◌}
 use mathlib.Core.Bool.{true, false}
@@ -21,9 +22,7 @@ use Rattle.records.specs.declared.Limits.{Limits}
 use Rattle.records.specs.declared.ManifestRow.{ManifestRow}
 use Rattle.records.specs.declared.Refusal.{Refusal}
 use Rattle.measure.proofs.Fits.{under}
-use Rattle.lawful.specs.declared.Judged.TheVariants.{Lawful}
 use Rattle.copy.specs.Copy.{room_of, laid_at, Outcome as Laid}
-use Rattle.copy.specs.declared.Copied.TheVariants as copied
 use Rattle.unite_sources.specs.Rows.{source_at_word, sources_in}
 use Rattle.unite_judge.specs.Judging.{source_judged, sources_judged}
 use Rattle.manifest_read.specs.Answer.{work_room}
@@ -32,8 +31,6 @@ use Rattle.encoded.specs.Encoded.{Encoded, holds, refused, encoded_of}
 use Rattle.standing.proofs.Reading.{read_into, Accepted, accepted_is, accepted_judged, read_accepted, read_roomy, accepted_stays}
 use Rattle.encoded_union.specs.Union.{start_of, piece_of, some_bad, manifest_of, bare_of, source_of, sources_of, behind}
 use Rattle.encoded_union.specs.Steps.{place_of, source_words, Step, source_into, Gathered}
-use Rattle.encoded_union.specs.declared.Reading.{Reading}
-use Rattle.encoded_union.specs.declared.Reading.TheVariants.{Done, Refused}
 use Rattle.encoded_union.proofs.Rows.{holds_written, holds_before, part_front, source_wide, made, row_judged, row_source}
 use Rattle.encoded_union.proofs.Gather.{behind_more, behind_under, behind_fits, behind_behind, all_read, one_unread, good_piece, paths_fit}
 
@@ -79,35 +76,35 @@ module _ (lim : Limits) (s ends paths path_ends checkpoints : List ℕ) where
       pub room_here : fits (plus c lim.fill) (room_of l) ≡ true
       room_here = rw g.same room_next
 
-      module _ (r : Reading) (l' : Lent) (t' : List ℕ) (e : record { answer = r; out = l'; rows = t' } ≡ source_into c l t (k * 22) (place_of path_ends k) (uuid k) (encoded_of lim (piece_of s ends k))) where
-        laying : r ≡ Done → Laying c l l' t t' k
+      module _ (r : Result Unit Refusal) (l' : Lent) (t' : List ℕ) (e : record { answer = r; out = l'; rows = t' } ≡ source_into c l t (k * 22) (place_of path_ends k) (uuid k) (encoded_of lim (piece_of s ends k))) where
+        laying : r ≡ Ok tt → Laying c l l' t t' k
         laying f = go (encoded_of lim (piece_of s ends k)) refl e
           where
             go : (y : Encoded) → encoded_of lim (piece_of s ends k) ≡ y → record { answer = r; out = l'; rows = t' } ≡ source_into c l t (k * 22) (place_of path_ends k) (uuid k) y → Laying c l l' t t' k
             go (holds m) i q = record { value = m; is = i; out = ap (λ (x : Step). x.out) q; rows = ap (λ (x : Step). x.rows) q }
-            go (refused y) i q = let u : Done ≡ Refused y = sym f ∙ ap (λ (x : Step). x.answer) q in let z : ◌≡◌ {A = ℕ} 0 1 = cc in absurd (omega arith)
+            go (refused y) i q = let u : Ok tt ≡ Err y = sym f ∙ ap (λ (x : Step). x.answer) q in let z : ◌≡◌ {A = ℕ} 0 1 = cc in absurd (omega arith)
 
-        refusing : (x : Refusal) → r ≡ Refused x → encoded_of lim (piece_of s ends k) ≡ refused x
+        refusing : (x : Refusal) → r ≡ Err x → encoded_of lim (piece_of s ends k) ≡ refused x
         refusing x f = go (encoded_of lim (piece_of s ends k)) e
           where
             go : (y : Encoded) → record { answer = r; out = l'; rows = t' } ≡ source_into c l t (k * 22) (place_of path_ends k) (uuid k) y → y ≡ refused x
-            go (holds m) q = let u : Refused x ≡ Done = sym f ∙ ap (λ (x : Step). x.answer) q in let z : ◌≡◌ {A = ℕ} 0 1 = cc in absurd (omega arith)
-            go (refused y) q = let u : Refused x ≡ Refused y = sym f ∙ ap (λ (x : Step). x.answer) q in let z : y ≡ x = cc in ap refused z
+            go (holds m) q = let u : Err x ≡ (Ok tt) = sym f ∙ ap (λ (x : Step). x.answer) q in let z : ◌≡◌ {A = ℕ} 0 1 = cc in absurd (omega arith)
+            go (refused y) q = let u : Err x ≡ Err y = sym f ∙ ap (λ (x : Step). x.answer) q in let z : y ≡ x = cc in ap refused z
 
-        pub stop : (x : Refusal) → r ≡ Refused x → Gathered lim s ends paths path_ends checkpoints n (Refused x) l' t'
+        pub stop : (x : Refusal) → r ≡ Err x → Gathered lim s ends paths path_ends checkpoints n (Err x) l' t'
         stop x f refuse given = one_unread lim s ends refuse n k h (λ i q. ((g.each i q).ok.value, (g.each i q).ok.is)) x (refusing x f) given
 
-        module _ (f : r ≡ Done) where
+        module _ (f : r ≡ Ok tt) where
           row : ManifestRow
           row = manifest_row_at c (laying f).value
 
-          read : ◌≡◌ {A = Laid} (record { answer = copied.Done (manifest_row_at c (laying f).value); out = l' }) (read_into c l (encoded_of lim (piece_of s ends k)))
+          read : ◌≡◌ {A = Laid} (record { answer = Ok (manifest_row_at c (laying f).value); out = l' }) (read_into c l (encoded_of lim (piece_of s ends k)))
           read =
-              ap (λ (x : Lent). record { answer = copied.Done (manifest_row_at c (laying f).value); out = x }) (laying f).out
+              ap (λ (x : Lent). record { answer = Ok (manifest_row_at c (laying f).value); out = x }) (laying f).out
               ∙ ap (read_into c l) (sym (laying f).is)
 
           same_room : room_of l' ≡ room_of l
-          same_room = read_roomy lim (piece_of s ends k) c l l' (copied.Done (manifest_row_at c (laying f).value)) read room_here (manifest_row_at c (laying f).value) refl
+          same_room = read_roomy lim (piece_of s ends k) c l l' (Ok (manifest_row_at c (laying f).value)) read room_here (manifest_row_at c (laying f).value) refl
 
           first : k * 22 + 22 ≤ length t
           first = omega (arith, g.wide, h)
@@ -118,7 +115,7 @@ module _ (lim : Limits) (s ends paths path_ends checkpoints : List ℕ) where
                 row = manifest_row_at c (laying f).value;
                 ok =
                     subst (λ (x : Fill). Accepted lim (piece_of s ends k) x (manifest_row_at c (laying f).value) l') g.here
-                    (read_accepted lim (piece_of s ends k) c l l' (copied.Done (manifest_row_at c (laying f).value)) read room_here (manifest_row_at c (laying f).value) refl);
+                    (read_accepted lim (piece_of s ends k) c l l' (Ok (manifest_row_at c (laying f).value)) read room_here (manifest_row_at c (laying f).value) refl);
                 words =
                     subst (λ (x : List ℕ). Holds x (k * 22) (source_words (manifest_row_at c (laying f).value) (place_of path_ends k) (uuid k))) (sym (laying f).rows)
                     (holds_written t (k * 22) (source_words (manifest_row_at c (laying f).value) (place_of path_ends k) (uuid k)) (omega (arith, first)));
@@ -130,7 +127,7 @@ module _ (lim : Limits) (s ends paths path_ends checkpoints : List ℕ) where
               record {
                 row = a.row;
                 ok =
-                    accepted_stays lim (piece_of s ends k) c l l' (copied.Done (manifest_row_at c (laying f).value)) read room_here (manifest_row_at c (laying f).value) refl (piece_of s ends i) (cursor i) a.row
+                    accepted_stays lim (piece_of s ends k) c l l' (Ok (manifest_row_at c (laying f).value)) read room_here (manifest_row_at c (laying f).value) refl (piece_of s ends i) (cursor i) a.row
                     (subst (λ (x : Fill). fits (plus (cursor i) lim.fill) x ≡ true) (sym g.here) (behind_behind lim.fill (bytes (length paths)) i k q)) a.ok;
                 words =
                     subst (λ (x : List ℕ). Holds x (i * 22) (source_words a.row (place_of path_ends i) (uuid i))) (sym (laying f).rows)
@@ -166,11 +163,11 @@ module _ (lim : Limits) (s ends paths path_ends checkpoints : List ℕ) where
 
     -- ---- at the end
 
-    judged_upto : (j : ℕ) → j ≤ k → sources_judged lim l t j ≡ Lawful
+    judged_upto : (j : ℕ) → j ≤ k → sources_judged lim l t j ≡ Ok tt
     judged_upto zero q = refl
     judged_upto (suc j) q =
         let a = g.each j (omega arith) in
-        let v : source_judged lim l t (j * 22) ≡ Lawful = row_judged t (j * 22) a.row (place_of path_ends j) (uuid j) a.words lim l ∙ accepted_judged lim (piece_of s ends j) (cursor j) a.row l a.ok in
+        let v : source_judged lim l t (j * 22) ≡ (Ok tt) = row_judged t (j * 22) a.row (place_of path_ends j) (uuid j) a.words lim l ∙ accepted_judged lim (piece_of s ends j) (cursor j) a.row l a.ok in
         rw (judged_upto j (omega arith), v)
 
     module _ (h : n ≤ k) (bad : some_bad lim.path (length paths) path_ends n ≡ false) where
@@ -187,7 +184,7 @@ module _ (lim : Limits) (s ends paths path_ends checkpoints : List ℕ) where
           ∙ ap (λ (x : Manifest). made l (bare_of x) (place_of path_ends i) (uuid i)) m
           ∙ ap (λ (x : List ℕ). record { manifest = bare_of (manifest_of (encoded_of lim (piece_of s ends i))); path = x; checkpoint = uuid i }) p
 
-      pub whole : Gathered lim s ends paths path_ends checkpoints n Done l t
+      pub whole : Gathered lim s ends paths path_ends checkpoints n (Ok tt) l t
       unfolding sources_in sources_of
       whole =
           let z : k ≡ n = omega (arith, g.within) in (

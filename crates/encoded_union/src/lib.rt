@@ -13,49 +13,35 @@ ghost use Rattle.encoded.specs.Encoded.{encoded_of, long_of};
 ghost use Rattle.encoded_union.specs.Union.{start_of, piece_of, bad_piece, some_bad, behind};
 ghost use Rattle.encoded_union.specs.Steps.{place_of, name_cell, source_words, source_into, Gathered};
 
-use copy::Copied;
 use ids::Uuid;
 use keys::part;
 use manifest_read::read_at;
-use records::{Fill, Limits, ManifestRow, Name, Place, Refusal, SegmentRow, segment_words};
-use tables::{ix, put_bytes, put_words};
-
-// What came of reading.
-#[derive(Clone, Copy)]
-pub enum Reading {
-    Done,
-    Refused(Refusal),
-}
+use records::{Fill, Limits, ManifestRow, Place, Refusal, SegmentRow, segment_words};
+use tables::{ix, put};
 
 // ---- a source's row
 
-fn name_code(x: Name) -> u64
+fn name_code(x: Option<Place>) -> u64
     ensures { result ≡ (name_cell x).code }
 {
-    match x {
-        Name::Absent => 0,
-        Name::Named(_) => 1,
-    }
+    u64::from(x.is_some())
 }
 
-fn name_place(x: Name) -> Place
+fn name_place(x: Option<Place>) -> Place
     ensures { (result.at ≡ (name_cell x).a) × (result.len ≡ (name_cell x).b) }
 {
-    match x {
-        Name::Absent => Place { at: 0, len: 0 },
-        Name::Named(p) => p,
-    }
+    x.unwrap_or(Place { at: 0, len: 0 })
 }
 
 // The words of the row of a source.
 fn source_words(m: ManifestRow, p: Place, u: Uuid) -> [u64; 22]
     ensures { result ≡ source_words m p u }
 {
-    let tree = m.tree;
-    let name = m.segment_extractor_name;
-    let code = name_code(name);
-    let place = name_place(name);
-    let w = segment_words(SegmentRow { prefix: p, tree });
+    let name = name_place(m.segment_extractor_name);
+    let w = segment_words(SegmentRow {
+        prefix: p,
+        tree: m.tree,
+    });
     [
         w[2],
         w[3],
@@ -69,9 +55,9 @@ fn source_words(m: ManifestRow, p: Place, u: Uuid) -> [u64; 22]
         w[11],
         m.segments.first as u64,
         m.segments.count as u64,
-        code,
-        place.at as u64,
-        place.len as u64,
+        name_code(m.segment_extractor_name),
+        name.at as u64,
+        name.len as u64,
         m.last_l0_seq,
         m.external_dbs.first as u64,
         m.external_dbs.count as u64,
@@ -87,8 +73,7 @@ fn put_source(m: ManifestRow, p: Place, u: Uuid, rows: &mut [u64], b: usize)
     requires { b + 22 ≤ length rows.old }
     ensures { rows.new ≡ write rows.old b (source_words m p u) }
 {
-    let row = source_words(m, p, u);
-    put_words(&row, rows, b);
+    put(&source_words(m, p, u), rows, b);
 }
 
 // ---- the parts of the call
@@ -110,10 +95,9 @@ fn place_of(ends: &[u64], k: usize) -> Place
     ensures { result ≡ place_of ends.now k }
 {
     let from = start_of(ends, k);
-    let end = ix(ends[k]);
     Place {
         at: from,
-        len: end - from,
+        len: ix(ends[k]) - from,
     }
 }
 
@@ -139,12 +123,12 @@ fn read_piece(
     c: Fill,
     rows: &mut [u64],
     b: usize,
-) -> Reading
+) -> Result<(), Refusal>
     requires s_value { (long_of s.now ≡ false) × (b + 22 ≤ length rows.old) }
     requires s_value_2 { (fits lim.fill (work_room lim (lent segments.old views.old runs.old borrows.old ids.old s.now)) ≡ true) × (fits (plus c lim.fill) (room_of (lent all_segments.old all_views.old all_runs.old all_borrows.old all_ids.old all_pool.old)) ≡ true) }
     ensures { record { answer = result; out = lent all_segments.new all_views.new all_runs.new all_borrows.new all_ids.new all_pool.new; rows = rows.new } ≡ source_into c (lent all_segments.old all_views.old all_runs.old all_borrows.old all_ids.old all_pool.old) rows.old b p u (encoded_of lim s.now) }
 {
-    match read_at(
+    let m = read_at(
         lim,
         s,
         segments,
@@ -159,13 +143,9 @@ fn read_piece(
         all_ids,
         all_pool,
         c,
-    ) {
-        Copied::Done(m) => {
-            put_source(m, p, u, rows, b);
-            Reading::Done
-        }
-        Copied::Refused(x) => Reading::Refused(x),
-    }
+    )?;
+    put_source(m, p, u, rows, b);
+    Ok(())
 }
 
 // Reads the `k`-th source.
@@ -189,7 +169,7 @@ fn read_one(
     all_pool: &mut [u8],
     c: Fill,
     rows: &mut [u64],
-) -> Reading
+) -> Result<(), Refusal>
     requires k_lt_most_sources { k < most_sources }
     requires k_in_bounds { (k < length ends.now) × (start_of ends.now k ≤ at ends.now k) × (long_of (piece_of s.now ends.now k) ≡ false) }
     requires k_in_bounds_2 { (k < length path_ends.now) × (start_of path_ends.now k ≤ at path_ends.now k) × (k * 2 + 2 ≤ length checkpoints.now) × (k * 22 + 22 ≤ length rows.old) }
@@ -258,14 +238,13 @@ pub fn read_sources(
     all_ids: &mut [u64],
     all_pool: &mut [u8],
     rows: &mut [u64],
-) -> Reading
+) -> Result<(), Refusal>
     requires path_ends_len { (length path_ends.now ≡ length ends.now) × (length checkpoints.now ≡ length ends.now * 2) × (length ends.now * 22 ≤ length rows.old) }
     requires ends_value { (some_bad 0x1_0000 (length s.now) ends.now (length ends.now) ≡ false) × (some_bad lim.path (length paths.now) path_ends.now (length ends.now) ≡ false) }
     requires s_value { (fits lim.fill (work_room lim (lent segments.old views.old runs.old borrows.old ids.old s.now)) ≡ true) × (fits (behind lim.fill (bytes (length paths.now)) (length ends.now)) (room_of (lent all_segments.old all_views.old all_runs.old all_borrows.old all_ids.old all_pool.old)) ≡ true) }
     requires ends_len_bound { length ends.now ≤ most_sources }
     ensures { Gathered lim s.now ends.now paths.now path_ends.now checkpoints.now (length ends.now) result (lent all_segments.new all_views.new all_runs.new all_borrows.new all_ids.new all_pool.new) rows.new }
 {
-    let most = lim.fill;
     let room = Fill {
         segments: all_segments.len() / 12,
         views: all_views.len() / 16,
@@ -274,18 +253,16 @@ pub fn read_sources(
         ids: all_ids.len() / 2,
         bytes: all_pool.len(),
     };
-    let n = put_bytes(paths, all_pool, 0);
     let mut c = Fill {
         segments: 0,
         views: 0,
         runs: 0,
         borrows: 0,
         ids: 0,
-        bytes: n,
+        bytes: put(paths, all_pool, 0),
     };
-    let mut k = 0;
-    while k < ends.len() {
-        match read_one(
+    for k in 0..ends.len() {
+        read_one(
             lim,
             s,
             ends,
@@ -305,15 +282,10 @@ pub fn read_sources(
             all_pool,
             c,
             rows,
-        ) {
-            Reading::Done => {
-                c = next(c, most, room);
-                k += 1;
-            }
-            Reading::Refused(x) => return Reading::Refused(x),
-        }
+        )?;
+        c = next(c, lim.fill, room);
     }
-    Reading::Done
+    Ok(())
 }
 
 // ---- the form of the call
@@ -325,10 +297,7 @@ fn bad_piece(most: usize, n: usize, ends: &[u64], k: usize) -> bool
 {
     let from = start_of(ends, k);
     let end = ix(ends[k]);
-    if end < from {
-        return true;
-    }
-    if n < end {
+    if end < from || n < end {
         return true;
     }
     most < end - from
@@ -340,12 +309,10 @@ pub fn some_bad(most: usize, n: usize, ends: &[u64], count: usize) -> bool
     requires { count ≤ length ends.now }
     ensures { result ≡ some_bad most n ends.now count }
 {
-    let mut k = 0;
-    while k < count {
+    for k in 0..count {
         if bad_piece(most, n, ends, k) {
             return true;
         }
-        k += 1;
     }
     false
 }

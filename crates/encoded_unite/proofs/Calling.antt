@@ -1,4 +1,5 @@
 -- The form of a call, the working memory, and the order of refusals. Assumes nothing.
+use Rattle.std.specs.Prelude.{Err, Ok, Result}
 use Prim.Native.Nat.{ℕ, ◌+◌, ◌-◌, ◌*◌, ◌/◌, ◌≤◌, ◌<◌}
 use mathlib.Core.Path.{◌≡◌, refl, sym, ap, subst, ◌∙◌}
 use mathlib.Core.Bool.{Bool, true, false, not, ◌||◌}
@@ -17,7 +18,6 @@ use Rattle.records.specs.declared.Limits.{Limits}
 use Rattle.records.specs.declared.Refusal.{Refusal}
 use Rattle.records.specs.declared.Refusal.TheVariants.{OverLimit, NoRoom}
 use Rattle.measure.proofs.Fits.{Under, says_fits, under}
-use Rattle.lawful.specs.declared.Judged.TheVariants.{Lawful}
 use Rattle.copy.specs.Copy.{room_of}
 use Rattle.borrows.specs.Clone.{uuids_of}
 use Rattle.unite_sources.specs.Source.{Source}
@@ -28,8 +28,6 @@ use Rattle.encoded.specs.Read.{refused_with}
 use Rattle.encoded_union.specs.Union.{some_bad, sources_of, unless_unread, union_of, call_over, behind, short_union, union_to}
 use Rattle.encoded_union.specs.Steps.{Gathered}
 use Rattle.encoded_unite.specs.Steps.{tables_short, rest_short}
-use Rattle.encoded_union.specs.declared.Reading.{Reading}
-use Rattle.encoded_union.specs.declared.Reading.TheVariants.{Done, Refused}
 use Rattle.encoded_union.proofs.Gather.{or_false, under_more, behind_upto}
 
 -- ---- the form of the call
@@ -225,21 +223,21 @@ module _ (most : Fill) {segments views runs borrows ids segments' views' runs' b
 
 -- ---- what was read
 
-module _ (lim : Limits) (s ends paths path_ends checkpoints : List ℕ) (n : ℕ) (r : Reading) (l : Lent) (t : List ℕ) (g : Gathered lim s ends paths path_ends checkpoints n r l t) where
-  as_read : (x : Reading) → r ≡ x → Gathered lim s ends paths path_ends checkpoints n x l t
-  as_read x e = subst (λ (y : Reading). Gathered lim s ends paths path_ends checkpoints n y l t) e g
+module _ (lim : Limits) (s ends paths path_ends checkpoints : List ℕ) (n : ℕ) (r : Result Unit Refusal) (l : Lent) (t : List ℕ) (g : Gathered lim s ends paths path_ends checkpoints n r l t) where
+  as_read : (x : Result Unit Refusal) → r ≡ x → Gathered lim s ends paths path_ends checkpoints n x l t
+  as_read x e = subst (λ (y : Result Unit Refusal). Gathered lim s ends paths path_ends checkpoints n y l t) e g
 
-  pub read_judged : r ≡ Done → sources_judged lim l t n ≡ Lawful
-  read_judged e = (as_read Done e).0
+  pub read_judged : r ≡ Ok tt → sources_judged lim l t n ≡ Ok tt
+  read_judged e = (as_read (Ok tt) e).0
 
   module _ (room : Fill) (out : List ℕ) (fresh : List Uuid) where
-    pub read_united : r ≡ Done → union_of lim room out (sources_in l t n) fresh ≡ unless_unread (refused_with out) lim s ends n (union_of lim room out (sources_of lim s ends paths path_ends checkpoints n) fresh)
+    pub read_united : r ≡ Ok tt → union_of lim room out (sources_in l t n) fresh ≡ unless_unread (refused_with out) lim s ends n (union_of lim room out (sources_of lim s ends paths path_ends checkpoints n) fresh)
     read_united e =
-        let q = as_read Done e in
+        let q = as_read (Ok tt) e in
         ap (λ (ss : List Source). union_of lim room out ss fresh) q.1 ∙ sym (q.2 (refused_with out) (union_of lim room out (sources_of lim s ends paths path_ends checkpoints n) fresh))
 
-    pub read_not : (x : Refusal) → r ≡ Refused x → refused_with out x ≡ unless_unread (refused_with out) lim s ends n (union_of lim room out (sources_of lim s ends paths path_ends checkpoints n) fresh)
-    read_not x e = sym (as_read (Refused x) e (refused_with out) (union_of lim room out (sources_of lim s ends paths path_ends checkpoints n) fresh))
+    pub read_not : (x : Refusal) → r ≡ Err x → refused_with out x ≡ unless_unread (refused_with out) lim s ends n (union_of lim room out (sources_of lim s ends paths path_ends checkpoints n) fresh)
+    read_not x e = sym (as_read (Err x) e (refused_with out) (union_of lim room out (sources_of lim s ends paths path_ends checkpoints n) fresh))
 
 -- ---- the order of refusals
 

@@ -26,19 +26,10 @@ pub fn call_over(
     ensures { result ≡ call_over lim s.now ends.now paths.now path_ends.now checkpoints.now }
 {
     let n = ends.len();
-    if 8 < n {
+    if 8 < n || path_ends.len() != n || checkpoints.len() != n * 2 {
         return true;
     }
-    if path_ends.len() != n {
-        return true;
-    }
-    if checkpoints.len() != n * 2 {
-        return true;
-    }
-    if some_bad(LONGEST, s.len(), ends, n) {
-        return true;
-    }
-    some_bad(lim.path, paths.len(), path_ends, n)
+    some_bad(LONGEST, s.len(), ends, n) || some_bad(lim.path, paths.len(), path_ends, n)
 }
 
 // ---- the working memory
@@ -65,11 +56,7 @@ fn has_all(most: Fill, n: usize, all: Fill) -> bool
 fn lacks_fresh(lim: Limits, given: usize, lent: usize) -> bool
     ensures { result ≡ ltb lent (given + lim.fill.borrows * 2) }
 {
-    let most = lim.fill;
-    if lent < given {
-        return true;
-    }
-    (lent - given) / 2 < most.borrows
+    lent < given || (lent - given) / 2 < lim.fill.borrows
 }
 
 // Whether tables of so many words are too short: those that each source is read into for some manifest within L1, or those that hold all for
@@ -91,14 +78,13 @@ fn lacks_tables(
 ) -> bool
     ensures { result ≡ tables_short lim n (record { segments = segments / 12; views = views / 16; runs = runs / 3; borrows = borrows / 9; ids = ids / 2; bytes = lim.fill.bytes }) (record { segments = all_segments / 12; views = all_views / 16; runs = all_runs / 3; borrows = all_borrows / 9; ids = all_ids / 2; bytes = all_pool }) }
 {
-    let most = lim.fill;
     let work = Fill {
         segments: segments / 12,
         views: views / 16,
         runs: runs / 3,
         borrows: borrows / 9,
         ids: ids / 2,
-        bytes: most.bytes,
+        bytes: lim.fill.bytes,
     };
     let all = Fill {
         segments: all_segments / 12,
@@ -108,10 +94,7 @@ fn lacks_tables(
         ids: all_ids / 2,
         bytes: all_pool,
     };
-    if fits_in(most, work) {
-        return !has_all(most, n, all);
-    }
-    true
+    !fits_in(lim.fill, work) || !has_all(lim.fill, n, all)
 }
 
 // Whether the list of UUIDs, of which `given` words were lent, the tables of the result or the union's own working memory are too short.
@@ -129,7 +112,6 @@ fn lacks_rest(
 ) -> bool
     ensures { result ≡ rest_short lim given lent (record { segments = segments / 12; views = views / 16; runs = runs / 3; borrows = borrows / 9; ids = ids / 2; bytes = to_pool }) (own_short lim sets) }
 {
-    let most = lim.fill;
     let to = Fill {
         segments: segments / 12,
         views: views / 16,
@@ -138,13 +120,10 @@ fn lacks_rest(
         ids: ids / 2,
         bytes: to_pool,
     };
-    if lacks_fresh(lim, given, lent) {
+    if lacks_fresh(lim, given, lent) || !fits_in(lim.fill, to) {
         return true;
     }
-    if fits_in(most, to) {
-        return work_short(lim, PREFIXES, OWNED, GROUPS, sets);
-    }
-    true
+    work_short(lim, PREFIXES, OWNED, GROUPS, sets)
 }
 
 // Whether any of it is too short: the result has the tables that each source is read into, and a pool of its own.
@@ -169,7 +148,7 @@ pub fn lacks_room(
 ) -> bool
     ensures { result ≡ (tables_short lim n (record { segments = segments / 12; views = views / 16; runs = runs / 3; borrows = borrows / 9; ids = ids / 2; bytes = lim.fill.bytes }) (record { segments = all_segments / 12; views = all_views / 16; runs = all_runs / 3; borrows = all_borrows / 9; ids = all_ids / 2; bytes = all_pool }) || rest_short lim given lent (record { segments = segments / 12; views = views / 16; runs = runs / 3; borrows = borrows / 9; ids = ids / 2; bytes = to_pool }) (own_short lim sets)) }
 {
-    if lacks_tables(
+    lacks_tables(
         lim,
         n,
         segments,
@@ -183,10 +162,7 @@ pub fn lacks_room(
         all_borrows,
         all_ids,
         all_pool,
-    ) {
-        return true;
-    }
-    lacks_rest(
+    ) || lacks_rest(
         lim, given, lent, sets, segments, views, runs, borrows, ids, to_pool,
     )
 }

@@ -12,9 +12,8 @@ ghost use Rattle.encoded_union.specs.Union.{sources_of, unless_unread, union_of,
 ghost use Rattle.encoded_united.specs.Lists.{own_short};
 
 use call_forms::{call_over, lacks_room};
-use encoded_union::{Reading, read_sources};
+use encoded_union::read_sources;
 use encoded_united::union_lent;
-use manifest_write::Written;
 use records::{Fill, Limits, Refusal};
 
 // Reads all sources, and unites them into the tables that each was read into.
@@ -42,12 +41,12 @@ fn union_read(
     sets: &mut [u64],
     to_pool: &mut [u8],
     out: &mut [u8],
-) -> Written
+) -> Result<usize, Refusal>
     requires { (call_over lim s.now ends.now paths.now path_ends.now checkpoints.now ≡ false) × ((short_union lim (length paths.now) (lent segments.old views.old runs.old borrows.old ids.old []) (lent all_segments.old all_views.old all_runs.old all_borrows.old all_ids.old all_pool.old) (length fresh.now) (length lent_fresh.old) (lent segments.old views.old runs.old borrows.old ids.old to_pool.old) || own_short lim (length sets.old)) ≡ false) }
     ensures { record { answer = result; out = out.new } ≡ unless_unread (refused_with out.old) lim s.now ends.now (length ends.now) (union_of lim room out.old (sources_of lim s.now ends.now paths.now path_ends.now checkpoints.now (length ends.now)) (uuids_of fresh.now)) }
 {
     let mut rows = [0u64; 176];
-    match read_sources(
+    read_sources(
         lim,
         s,
         ends,
@@ -66,31 +65,29 @@ fn union_read(
         all_ids,
         all_pool,
         &mut rows,
-    ) {
-        Reading::Done => union_lent(
-            lim,
-            &rows,
-            ends.len(),
-            all_segments,
-            all_views,
-            all_runs,
-            all_borrows,
-            all_ids,
-            all_pool,
-            fresh,
-            lent_fresh,
-            room,
-            sets,
-            segments,
-            views,
-            runs,
-            borrows,
-            ids,
-            to_pool,
-            out,
-        ),
-        Reading::Refused(x) => Written::Refused(x),
-    }
+    )?;
+    union_lent(
+        lim,
+        &rows,
+        ends.len(),
+        all_segments,
+        all_views,
+        all_runs,
+        all_borrows,
+        all_ids,
+        all_pool,
+        fresh,
+        lent_fresh,
+        room,
+        sets,
+        segments,
+        views,
+        runs,
+        borrows,
+        ids,
+        to_pool,
+        out,
+    )
 }
 
 // The union of encoded manifests, encoded. Source k is the k-th part of `s`, its path the k-th part of `paths`, its checkpoint the k-th pair of
@@ -119,11 +116,11 @@ pub fn union(
     sets: &mut [u64],
     to_pool: &mut [u8],
     out: &mut [u8],
-) -> Written
+) -> Result<usize, Refusal>
     ensures { record { answer = result; out = out.new } ≡ union_to lim s.now ends.now paths.now path_ends.now checkpoints.now fresh.now room (lent segments.old views.old runs.old borrows.old ids.old []) (lent all_segments.old all_views.old all_runs.old all_borrows.old all_ids.old all_pool.old) (length lent_fresh.old) (own_short lim (length sets.old)) (lent segments.old views.old runs.old borrows.old ids.old to_pool.old) out.old }
 {
     if call_over(lim, s, ends, paths, path_ends, checkpoints) {
-        return Written::Refused(Refusal::OverLimit);
+        return Err(Refusal::OverLimit);
     }
     if lacks_room(
         lim,
@@ -144,7 +141,7 @@ pub fn union(
         all_pool.len(),
         to_pool.len(),
     ) {
-        return Written::Refused(Refusal::NoRoom);
+        return Err(Refusal::NoRoom);
     }
     union_read(
         lim,

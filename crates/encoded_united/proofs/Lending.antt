@@ -1,11 +1,10 @@
 -- The fresh UUIDs with zeros behind them. Assumes nothing.
-use Prim.Native.Nat.{ℕ, zero, suc, ◌+◌, ◌-◌, ◌*◌, ◌/◌, ◌≤◌, ◌<◌}
+use Prim.Native.Nat.{ℕ, zero, suc, ◌+◌, ◌-◌, ◌*◌, ◌/◌, ◌≤◌}
 use mathlib.Core.Path.{◌≡◌, refl, sym, ap, ◌∙◌}
 use mathlib.Core.List.{List, [], ◌∷◌, ◌++◌}
 use native.Mathlib.Omega.{arith}
 use native.Mathlib.Nat.{sub-zero}
-use lib.ListN.{length, take, drop, set, replicate, length-set}
-use borrow.Author.Fill.{fill_none, fill_more}
+use lib.ListN.{length, take, drop, replicate}
 use Rattle.ids.specs.declared.Uuid.{Uuid}
 use Rattle.tables.specs.Layout.{write}
 use Rattle.tables.proofs.Writes.{write_front}
@@ -14,41 +13,6 @@ use Rattle.unite_sources.specs.Source.{Source}
 use Rattle.unite.specs.United.{united_from}
 use Rattle.encoded_united.specs.Steps.{lent_words}
 use Rattle.encoded_union.proofs.Standing.{zeros, united_more}
-
--- ---- zeros
-
--- the first k are zeros
-pub record Cleared (d₀ d : List ℕ) (k : ℕ) : Type 0 where
-  pub within : k ≤ length d₀
-  pub long : length d ≡ length d₀
-  pub is : d ≡ replicate k 0 ++ drop k d₀
-
-pub cleared_none : (d : List ℕ) → Cleared d d 0
-cleared_none d = record { within = omega arith; long = refl; is = fill_none d 0 }
-
-drop_all : (d : List ℕ) → drop (length d) d ≡ []
-drop_all [] = refl
-drop_all (x ∷ d) = drop_all d
-
-append_none : (xs : List ℕ) → xs ++ [] ≡ xs
-append_none [] = refl
-append_none (x ∷ xs) = ap (λ (t : List ℕ). x ∷ t) (append_none xs)
-
-module _ (d₀ d : List ℕ) (k : ℕ) (w : Cleared d₀ d k) where
-  pub cleared_more : k < length d → Cleared d₀ (set d k 0) (k + 1)
-  cleared_more h =
-      record {
-        within = omega (arith, w.long);
-        long = length-set d k 0 ∙ w.long;
-        is = ap (λ (l : List ℕ). set l k 0) w.is ∙ fill_more k 0 d₀ (omega (arith, w.long));
-      }
-
-  pub cleared_all : length d ≤ k → d ≡ replicate (length d₀) 0
-  cleared_all h =
-      let e : k ≡ length d₀ = omega (arith, w.within, w.long) in
-      w.is ∙ rw e (rw (drop_all d₀) (append_none (replicate (length d₀) 0)))
-
-pub ruleset clears = (cleared_none, cleared_more, cleared_all)
 
 -- ---- the UUIDs
 
@@ -83,9 +47,9 @@ united_lent ws vs n e ss us =
     ∙ united_more ss us (uuids_of ws) ((n - length t) / 2)
 
 -- the part that the code cuts out, written at the front of zeros
-pub lent_is : (ws d d' : List ℕ) (n : ℕ) → d' ≡ write d 0 (take (length ws / 2 * 2 - 0) (drop 0 ws)) → d ≡ replicate n 0 → d' ≡ lent_words ws n
+pub lent_is : (ws d d' : List ℕ) (n : ℕ) → d' ≡ write d 0 (take (length ws / 2 * 2) ws) → d ≡ replicate n 0 → d' ≡ lent_words ws n
 unfolding lent_words
-lent_is ws d d' n g e = g ∙ rw (e, sub-zero (length ws / 2 * 2)) (write_front (replicate n 0) (take (length ws / 2 * 2) ws))
+lent_is ws d d' n g e = g ∙ rw e (write_front (replicate n 0) (take (length ws / 2 * 2) ws))
 
 -- the list that was lent on, and a UUID in it for each borrow within L1
 pub lent_again : (ws d d' : List ℕ) (most : ℕ) → d' ≡ lent_words ws (length d) → length d' ≡ length d → length ws + most * 2 ≤ length d → (d' ≡ lent_words ws (length d')) × (most ≤ length d' / 2)

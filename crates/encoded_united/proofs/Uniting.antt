@@ -1,4 +1,5 @@
 -- The union in tables, written. Assumes nothing.
+use Rattle.std.specs.Prelude.{Err, Ok, Result}
 use Prim.Native.Nat.{ℕ, suc, ◌-◌, ◌*◌, ◌/◌, ◌≤◌}
 use mathlib.Core.Path.{◌≡◌, refl, sym, ap, ◌∙◌}
 use mathlib.Core.Bool.{Bool, true, false, not, ◌&&◌, true≢false}
@@ -32,8 +33,6 @@ use Rattle.unite_sources.specs.Prefixed.{all_prefixes, refuses14, refuses12_at, 
 use Rattle.unite_judge.specs.Judging.{work_short}
 use Rattle.unite.specs.United.{united_from, refuses15_all}
 use Rattle.unite.specs.Answer as laying
-use Rattle.unite.specs.declared.United.{United}
-use Rattle.unite.specs.declared.United.TheVariants as laid
 use Rattle.manifest_write.specs.Bytes.{manifest_bytes}
 use Rattle.manifest_write.specs.Answer.{Outcome}
 use Rattle.encoded.specs.Read.{refused_with}
@@ -46,9 +45,9 @@ use Rattle.encoded_united.specs.Lists.{own_short}
 -- ---- from the answer on tables
 
 -- what comes of an answer, where the result tables hold o and so many words of fresh UUIDs were given
-abbrev told : ℕ → List ℕ → United → Lent → Outcome
-told given out (laid.Done row) o = fresh_put (ltb (given / 2) row.external_dbs.count) (manifest_bytes (manifest_in o row)) out
-told given out (laid.Refused x) o = refused_with out x
+abbrev told : ℕ → List ℕ → Result ManifestRow Refusal → Lent → Outcome
+told given out (Ok row) o = fresh_put (ltb (given / 2) row.external_dbs.count) (manifest_bytes (manifest_in o row)) out
+told given out (Err x) o = refused_with out x
 
 module _ (lim : Limits) (out fresh names : List ℕ) (o : Lent) (e : names ≡ lent_words fresh (length names)) (k : lim.fill.borrows ≤ length names / 2) where
   abbrev tell : laying.Outcome → Outcome
@@ -65,7 +64,7 @@ module _ (lim : Limits) (out fresh names : List ℕ) (o : Lent) (e : names ≡ l
       first_true true b e = refl
       first_true false b e = sym e
 
-  laid_told : (m : Manifest) → told (length fresh) out (laid.Done (manifest_row m)) (laid_over o (layout m)) ≡ fresh_put (refuses16 m.borrows (uuids_of fresh)) (manifest_bytes m) out
+  laid_told : (m : Manifest) → told (length fresh) out (Ok (manifest_row m)) (laid_over o (layout m)) ≡ fresh_put (refuses16 m.borrows (uuids_of fresh)) (manifest_bytes m) out
   unfolding manifest_row
   laid_told m =
       ap (λ (n : Manifest). fresh_put (ltb (length fresh / 2) (length m.borrows)) (manifest_bytes n) out) (decode_over m o)
@@ -78,8 +77,8 @@ module _ (lim : Limits) (out fresh names : List ℕ) (o : Lent) (e : names ≡ l
       ∙ ap (λ (y : Outcome). pick (refuses15_all us) (refused_with out NoFinal) (pick (no_room lim (room_of o) (manifest_fill m)) (refused_with out NoRoom) y)) (laid_told m)
     where
       go : (a b c : Bool) → (b ≡ false → c ≡ false)
-          → tell (pick a (laying.refused NoFinal o) (pick b (laying.refused NoRoom o) (pick c (laying.refused TooFewFresh o) (record { answer = laid.Done (manifest_row m); out = laid_over o (layout m) }))))
-          ≡ pick a (refused_with out NoFinal) (pick b (refused_with out NoRoom) (told (length fresh) out (laid.Done (manifest_row m)) (laid_over o (layout m))))
+          → tell (pick a (laying.refused NoFinal o) (pick b (laying.refused NoRoom o) (pick c (laying.refused TooFewFresh o) (record { answer = Ok (manifest_row m); out = laid_over o (layout m) }))))
+          ≡ pick a (refused_with out NoFinal) (pick b (refused_with out NoRoom) (told (length fresh) out (Ok (manifest_row m)) (laid_over o (layout m))))
       go true b c h = refl
       go false true c h = refl
       go false false true h = absurd (true≢false (h refl))
@@ -111,16 +110,16 @@ module _ (lim : Limits) (out fresh names : List ℕ) (o : Lent) (e : names ≡ l
       ∙ ap (unless_unfit out (agreed_name ss) (in_order ss))
       (result_told us (united_from ss us (uuids_of names)) ∙ ap (union_put lim (room_of o) out us (uuids_of fresh)) (united_lent fresh names (length names) e ss us)))
 
-  module _ (ss : List Source) (o' : Lent) (r : United) (q : record { answer = r; out = o' } ≡ laying.union_given lim ss (uuids_of names) o) where
-    into : (y : United) → r ≡ y → told (length fresh) out y o' ≡ union_of lim (room_of o) out ss (uuids_of fresh)
-    into y h = ap (λ (x : United). told (length fresh) out x o') (sym h) ∙ ap tell q ∙ given_told ss
+  module _ (ss : List Source) (o' : Lent) (r : Result ManifestRow Refusal) (q : record { answer = r; out = o' } ≡ laying.union_given lim ss (uuids_of names) o) where
+    into : (y : Result ManifestRow Refusal) → r ≡ y → told (length fresh) out y o' ≡ union_of lim (room_of o) out ss (uuids_of fresh)
+    into y h = ap (λ (x : Result ManifestRow Refusal). told (length fresh) out x o') (sym h) ∙ ap tell q ∙ given_told ss
 
-    pub into_done : (row : ManifestRow) → r ≡ laid.Done row
+    pub into_done : (row : ManifestRow) → r ≡ Ok row
         → fresh_put (ltb (length fresh / 2) row.external_dbs.count) (manifest_bytes (manifest_in o' row)) out ≡ union_of lim (room_of o) out ss (uuids_of fresh)
-    into_done row h = into (laid.Done row) h
+    into_done row h = into (Ok row) h
 
-    pub into_refused : (x : Refusal) → r ≡ laid.Refused x → refused_with out x ≡ union_of lim (room_of o) out ss (uuids_of fresh)
-    into_refused x h = into (laid.Refused x) h
+    pub into_refused : (x : Refusal) → r ≡ Err x → refused_with out x ≡ union_of lim (room_of o) out ss (uuids_of fresh)
+    into_refused x h = into (Err x) h
 
 -- ---- the part of each table
 

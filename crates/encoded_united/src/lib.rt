@@ -5,7 +5,6 @@
 ghost use Rattle.std.specs.Prelude.{◌≡◌, true, false, ◌+◌, ◌-◌, ◌*◌, ◌/◌, ◌≤◌, ltb, length, replicate};
 ghost use Rattle.records.specs.Fill.{fits};
 ghost use Rattle.records.specs.Decode.{manifest_in};
-ghost use Rattle.lawful.specs.declared.Judged.TheVariants.{Lawful};
 ghost use Rattle.copy.specs.Copy.{room_of};
 ghost use Rattle.borrows.specs.Clone.{uuids_of};
 ghost use Rattle.unite_sources.specs.Rows.{sources_in};
@@ -19,10 +18,8 @@ ghost use Rattle.encoded_united.specs.Steps.{lent_words};
 
 use encoded::least;
 use encoded_borrows::write_clone;
-use manifest_write::Written;
-use records::{Fill, Limits, ManifestRow};
-use tables::put_words;
-use unite::United;
+use records::{Fill, Limits, ManifestRow, Refusal};
+use tables::put;
 use unite_all::union_judged;
 
 // The words of the union's own lists, for eight sources within document 01's limits: two for each prefix of a segment ..
@@ -38,11 +35,7 @@ pub const GROUPS: usize = 1584;
 fn clear(out: &mut [u64])
     ensures { out.new ≡ replicate (length out.old) 0 }
 {
-    let mut k = 0;
-    while k < out.len() {
-        out[k] = 0;
-        k += 1;
-    }
+    out.fill(0);
 }
 
 // Lends the fresh UUIDs on, with zeros behind them.
@@ -52,7 +45,7 @@ fn lend_fresh(fresh: &[u64], lent_fresh: &mut [u64])
 {
     clear(lent_fresh);
     let n = fresh.len() / 2 * 2;
-    put_words(&fresh[0..n], lent_fresh, 0);
+    put(&fresh[..n], lent_fresh, 0);
 }
 
 // Writes the union that was laid, or says why not: its length is judged before the number of fresh UUIDs, of which `given` words were lent.
@@ -66,11 +59,10 @@ fn write_union(
     m: ManifestRow,
     given: usize,
     out: &mut [u8],
-) -> Written
+) -> Result<usize, Refusal>
     ensures { record { answer = result; out = out.new } ≡ fresh_put (ltb (given / 2) m.external_dbs.count) (manifest_bytes (manifest_in (lent segments.now views.now runs.now borrows.now ids.now pool.now) m)) out.old }
 {
-    let w = m.external_dbs;
-    let few = given / 2 < w.count;
+    let few = given / 2 < m.external_dbs.count;
     write_clone(segments, views, runs, borrows, ids, pool, m, few, out)
 }
 
@@ -95,15 +87,15 @@ fn union_into(
     to_ids: &mut [u64],
     to_pool: &mut [u8],
     out: &mut [u8],
-) -> Written
-    requires n_le_most_sources { (n ≤ most_sources) × (n * 22 ≤ length rows.now) × (sources_judged lim (lent all_segments.now all_views.now all_runs.now all_borrows.now all_ids.now all_pool.now) rows.now n ≡ Lawful) × (own_short lim (length sets.old) ≡ false) }
+) -> Result<usize, Refusal>
+    requires n_le_most_sources { (n ≤ most_sources) × (n * 22 ≤ length rows.now) × (sources_judged lim (lent all_segments.now all_views.now all_runs.now all_borrows.now all_ids.now all_pool.now) rows.now n ≡ Ok tt) × (own_short lim (length sets.old) ≡ false) }
     requires lent_fresh_value { (lent_fresh.now ≡ lent_words fresh.now (length lent_fresh.now)) × (lim.fill.borrows ≤ length lent_fresh.now / 2) }
     ensures { record { answer = result; out = out.new } ≡ union_of lim (room_of (lent to_segments.old to_views.old to_runs.old to_borrows.old to_ids.old to_pool.old)) out.old (sources_in (lent all_segments.now all_views.now all_runs.now all_borrows.now all_ids.now all_pool.now) rows.now n) (uuids_of fresh.now) }
 {
     let mut prefixes = [0u64; PREFIXES];
     let mut owned = [0u64; OWNED];
     let mut groups = [0u64; GROUPS];
-    match union_judged(
+    let m = union_judged(
         lim,
         rows,
         n,
@@ -124,23 +116,18 @@ fn union_into(
         to_borrows,
         to_ids,
         to_pool,
-    ) {
-        United::Done(m) => {
-            let given = fresh.len();
-            write_union(
-                to_segments,
-                to_views,
-                to_runs,
-                to_borrows,
-                to_ids,
-                to_pool,
-                m,
-                given,
-                out,
-            )
-        }
-        United::Refused(x) => Written::Refused(x),
-    }
+    )?;
+    write_union(
+        to_segments,
+        to_views,
+        to_runs,
+        to_borrows,
+        to_ids,
+        to_pool,
+        m,
+        fresh.len(),
+        out,
+    )
 }
 
 // Unites into the part of the result tables that the room and L1 leave. They have room for any manifest within L1.
@@ -165,8 +152,8 @@ fn union_within(
     to_ids: &mut [u64],
     to_pool: &mut [u8],
     out: &mut [u8],
-) -> Written
-    requires n_le_most_sources { (n ≤ most_sources) × (n * 22 ≤ length rows.now) × (sources_judged lim (lent all_segments.now all_views.now all_runs.now all_borrows.now all_ids.now all_pool.now) rows.now n ≡ Lawful) × (own_short lim (length sets.old) ≡ false) }
+) -> Result<usize, Refusal>
+    requires n_le_most_sources { (n ≤ most_sources) × (n * 22 ≤ length rows.now) × (sources_judged lim (lent all_segments.now all_views.now all_runs.now all_borrows.now all_ids.now all_pool.now) rows.now n ≡ Ok tt) × (own_short lim (length sets.old) ≡ false) }
     requires lent_fresh_value { (lent_fresh.now ≡ lent_words fresh.now (length lent_fresh.now)) × (lim.fill.borrows ≤ length lent_fresh.now / 2) }
     requires segments_in_bounds { (lim.fill.segments * 12 ≤ length to_segments.old) × (lim.fill.views * 16 ≤ length to_views.old) × (lim.fill.runs * 3 ≤ length to_runs.old) × (lim.fill.borrows * 9 ≤ length to_borrows.old) × (lim.fill.ids * 2 ≤ length to_ids.old) × (lim.fill.bytes ≤ length to_pool.old) }
     ensures { record { answer = result; out = out.new } ≡ union_of lim room out.old (sources_in (lent all_segments.now all_views.now all_runs.now all_borrows.now all_ids.now all_pool.now) rows.now n) (uuids_of fresh.now) }
@@ -224,8 +211,8 @@ pub fn union_lent(
     to_ids: &mut [u64],
     to_pool: &mut [u8],
     out: &mut [u8],
-) -> Written
-    requires n_le_most_sources { (n ≤ most_sources) × (n * 22 ≤ length rows.now) × (sources_judged lim (lent all_segments.now all_views.now all_runs.now all_borrows.now all_ids.now all_pool.now) rows.now n ≡ Lawful) × (own_short lim (length sets.old) ≡ false) }
+) -> Result<usize, Refusal>
+    requires n_le_most_sources { (n ≤ most_sources) × (n * 22 ≤ length rows.now) × (sources_judged lim (lent all_segments.now all_views.now all_runs.now all_borrows.now all_ids.now all_pool.now) rows.now n ≡ Ok tt) × (own_short lim (length sets.old) ≡ false) }
     requires borrows_in_bounds { length fresh.now + lim.fill.borrows * 2 ≤ length lent_fresh.old }
     requires to_pool_value { fits lim.fill (room_of (lent to_segments.old to_views.old to_runs.old to_borrows.old to_ids.old to_pool.old)) ≡ true }
     ensures { record { answer = result; out = out.new } ≡ union_of lim room out.old (sources_in (lent all_segments.now all_views.now all_runs.now all_borrows.now all_ids.now all_pool.now) rows.now n) (uuids_of fresh.now) }

@@ -1,4 +1,5 @@
 -- Projection by the kinds of the global range. Assumes nothing.
+use Rattle.std.specs.Prelude.{Result}
 use Prim.Native.Nat.{ℕ}
 use mathlib.Core.Path.{◌≡◌, ap, ◌∙◌}
 use mathlib.Core.Bool.{true, false}
@@ -12,7 +13,6 @@ use Rattle.records.specs.declared.Refusal.{Refusal}
 use Rattle.records.specs.declared.Refusal.TheVariants.{OverLimit}
 use Rattle.project_ranges.specs.declared.ProjectionConfig.{ProjectionConfig}
 use Rattle.encoded_project.specs.Project.{refused_to, projected, project_to}
-use Rattle.encoded_project.specs.declared.ProjectedTo.{ProjectedTo}
 use Rattle.exports_forms.specs.Arguments.{config_arg, odd_global}
 use Rattle.exports_forms.specs.Replies.{told}
 use Rattle.exports_forms.specs.declared.Answer.{Answer}
@@ -36,5 +36,5 @@ module _ (f r s args own : List ℕ) (room : Fill) (w t : Lent) (used pool out :
     pub even_refused : (x : Refusal) (a : Answer) → a ≡ told (refusal x) → refused_to out x ≡ project_to lim s args c own most w t used pool out → record { answer = a; out = out } ≡ project_reply (project_by f r s args own room w t used pool out)
     even_refused x a e k = rw e (ap project_reply (k ∙ project_even))
 
-    pub even_given : (x : ProjectedTo) (a : Answer) (o : List ℕ) → a ≡ told (projected x) → record { answer = x; out = o } ≡ project_to lim s args c own most w t used pool out → record { answer = a; out = o } ≡ project_reply (project_by f r s args own room w t used pool out)
+    pub even_given : (x : Result (ℕ × ℕ) Refusal) (a : Answer) (o : List ℕ) → a ≡ told (projected x) → record { answer = x; out = o } ≡ project_to lim s args c own most w t used pool out → record { answer = a; out = o } ≡ project_reply (project_by f r s args own room w t used pool out)
     even_given x a o e k = rw e (ap project_reply (k ∙ project_even))

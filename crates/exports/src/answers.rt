@@ -5,39 +5,24 @@ ghost use Rattle.encoded_project.specs.Project.{projected};
 ghost use Rattle.exports_forms.specs.Replies.{told};
 
 use encoded::InsertedTo;
-use encoded_project::ProjectedTo;
-use exports_forms::{Answer, refused_answer};
+use exports_forms::{Answer, given, refused_answer};
+use records::Refusal;
 
-pub fn inserted_answer(x: InsertedTo) -> Answer
+pub fn inserted_answer(x: Result<InsertedTo, Refusal>) -> Answer
     ensures { result ≡ told (inserted x) }
 {
     match x {
-        InsertedTo::Found(i) => Answer {
-            number: 0,
-            first: 0,
-            second: i,
-            third: 0,
-        },
-        InsertedTo::Entered(i, n) => Answer {
-            number: 0,
-            first: 1,
-            second: i,
-            third: n,
-        },
-        InsertedTo::Refused(r) => refused_answer(r),
+        Ok(InsertedTo::Found(i)) => given(0, i, 0),
+        Ok(InsertedTo::Entered(i, n)) => given(1, i, n),
+        Err(r) => refused_answer(r),
     }
 }
 
-pub fn projected_answer(x: ProjectedTo) -> Answer
+pub fn projected_answer(x: Result<(usize, usize), Refusal>) -> Answer
     ensures { result ≡ told (projected x) }
 {
     match x {
-        ProjectedTo::Done(names, n) => Answer {
-            number: 0,
-            first: names,
-            second: n,
-            third: 0,
-        },
-        ProjectedTo::Refused(r) => refused_answer(r),
+        Ok((names, n)) => given(names, n, 0),
+        Err(r) => refused_answer(r),
     }
 }

@@ -14,7 +14,6 @@ ghost use Rattle.encoded.specs.Read.{read_to};
 ghost use Rattle.encoded.specs.Lookup.{lookup_of};
 ghost use Rattle.encoded.specs.Insert.{insert_to};
 ghost use Rattle.encoded_merge.specs.Merge.{merge_to};
-ghost use Rattle.merge.specs.declared.Side.TheVariants.{Writer, Compactor};
 ghost use Rattle.encoded_borrows.specs.Owned.{owned_to};
 ghost use Rattle.encoded_borrows.specs.Clone.{clone_to};
 ghost use Rattle.exports_forms.specs.Arguments.{room_fill, uuid_arg};
@@ -22,11 +21,10 @@ ghost use Rattle.exports_forms.specs.Replies.{told, wrote_reply, owned_reply};
 ghost use Rattle.exports.specs.Calls.{select_by, insert_reply, project_by, project_reply};
 
 use answers::{inserted_answer, projected_answer};
-use copy::Copied;
 use encoded_project::{call_over, lacks_list, project_within, read_behind};
 use exports_forms::{
-    Answer, config_arg, global_odd, is_odd, looked_answer, owned_answer, range_arg, refused_answer,
-    room_fill, selected_answer, uuid_arg, written_answer,
+    Answer, config_arg, global_odd, is_odd, looked_answer, range_arg, refused_answer, room_fill,
+    selected_answer, uuid_arg, written_answer,
 };
 use merge::Side;
 use records::{Refusal, limits_01};
@@ -136,9 +134,11 @@ pub fn manifest_insert(
     inserted_answer(x)
 }
 
-// The segments of the writer's manifest, each tree merged with the compactor's: 0, and how many bytes of `out` the encoded list fills.
+// From the writer's side the segments of the writer's manifest, each tree merged with the compactor's; from the compactor's the segments of
+// either manifest that are not empty once merged: 0, and how many bytes of `out` the encoded list fills.
 // The tables whose names begin with `both` have room for two manifests, `pool` for the bytes of one.
-pub fn manifest_merge_from_writer(
+pub fn manifest_merge(
+    side: Side,
     writer: &[u8],
     compactor: &[u8],
     room: &[u64; 6],
@@ -156,58 +156,12 @@ pub fn manifest_merge_from_writer(
     pool: &mut [u8],
     out: &mut [u8],
 ) -> Answer
-    ensures { record { answer = result; out = out.new } ≡ wrote_reply (merge_to Writer limits01 writer.now compactor.now (room_fill room.now) (lent segments.old views.old runs.old borrows.old ids.old []) (lent both_segments.old both_views.old both_runs.old both_borrows.old both_ids.old both_pool.old) pool.old out.old) }
+    ensures { record { answer = result; out = out.new } ≡ wrote_reply (merge_to side limits01 writer.now compactor.now (room_fill room.now) (lent segments.old views.old runs.old borrows.old ids.old []) (lent both_segments.old both_views.old both_runs.old both_borrows.old both_ids.old both_pool.old) pool.old out.old) }
 {
     let lim = limits_01();
     let most = room_fill(room);
     let w = encoded_merge::merge(
-        Side::Writer,
-        lim,
-        writer,
-        compactor,
-        most,
-        segments,
-        views,
-        runs,
-        borrows,
-        ids,
-        both_segments,
-        both_views,
-        both_runs,
-        both_borrows,
-        both_ids,
-        both_pool,
-        pool,
-        out,
-    );
-    written_answer(w)
-}
-
-// The segments of either manifest that are not empty once merged: the same.
-pub fn manifest_merge_from_compactor(
-    writer: &[u8],
-    compactor: &[u8],
-    room: &[u64; 6],
-    segments: &mut [u64],
-    views: &mut [u64],
-    runs: &mut [u64],
-    borrows: &mut [u64],
-    ids: &mut [u64],
-    both_segments: &mut [u64],
-    both_views: &mut [u64],
-    both_runs: &mut [u64],
-    both_borrows: &mut [u64],
-    both_ids: &mut [u64],
-    both_pool: &mut [u8],
-    pool: &mut [u8],
-    out: &mut [u8],
-) -> Answer
-    ensures { record { answer = result; out = out.new } ≡ wrote_reply (merge_to Compactor limits01 writer.now compactor.now (room_fill room.now) (lent segments.old views.old runs.old borrows.old ids.old []) (lent both_segments.old both_views.old both_runs.old both_borrows.old both_ids.old both_pool.old) pool.old out.old) }
-{
-    let lim = limits_01();
-    let most = room_fill(room);
-    let w = encoded_merge::merge(
-        Side::Compactor,
+        side,
         lim,
         writer,
         compactor,
@@ -243,7 +197,7 @@ pub fn manifest_owned(
 {
     let lim = limits_01();
     let x = encoded_borrows::owned(lim, s, segments, views, runs, borrows, ids, out);
-    owned_answer(x)
+    written_answer(x)
 }
 
 // A manifest that borrows all it uses, from the parent at `path` or from those that the parent borrows from: 0, and how many bytes
@@ -353,7 +307,7 @@ pub fn manifest_project(
         in_ids,
         in_pool,
     ) {
-        Copied::Done(m) => {
+        Ok(m) => {
             let x = project_within(
                 lim,
                 in_segments,
@@ -377,6 +331,6 @@ pub fn manifest_project(
             );
             projected_answer(x)
         }
-        Copied::Refused(x) => refused_answer(x),
+        Err(x) => refused_answer(x),
     }
 }

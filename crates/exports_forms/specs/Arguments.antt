@@ -1,14 +1,10 @@
 -- What the numbers that go in stand for.
-use Rattle.std.specs.Prelude.{ℕ, Bool, not, ◌&&◌, ◌||◌, List, ltb, eqb}
+use Rattle.std.specs.Prelude.{ℕ, Bool, not, ◌&&◌, ◌||◌, List, ltb, eqb, None, Option, Some}
 use Rattle.keys.specs.Pick.{pick}
 use Rattle.keys.specs.declared.Range.{Range}
 use Rattle.ids.specs.declared.Uuid.{Uuid}
 use Rattle.records.specs.Row.{at, bound_at}
 use Rattle.records.specs.declared.Fill.{Fill}
-use Rattle.project_ranges.specs.declared.Global.{Global}
-use Rattle.project_ranges.specs.declared.Global.TheVariants.{Unset, Set}
-use Rattle.project_ranges.specs.declared.Filter.{Filter}
-use Rattle.project_ranges.specs.declared.Filter.TheVariants.{All, Only}
 use Rattle.project_ranges.specs.declared.ProjectionConfig.{ProjectionConfig}
 
 -- the six numbers of a room
@@ -27,12 +23,12 @@ odd_of r = ltb 2 (at r 0) || ltb 2 (at r 3)
 abbrev pub is_on : ℕ → Bool
 is_on x = not (eqb x 0)
 
-abbrev pub global_arg : ℕ → List ℕ → Global
-global_arg flag r = pick (is_on flag) (Set (range_arg r)) Unset
+abbrev pub global_arg : ℕ → List ℕ → Option Range
+global_arg flag r = pick (is_on flag) (Some (range_arg r)) None
 
 -- "The filter is a flag for the unsegmented tree and a 64-bit mask"
-abbrev pub filter_arg : ℕ → ℕ → ℕ → Filter
-filter_arg flag keeps mask = pick (is_on flag) (Only (is_on keeps) mask) All
+abbrev pub filter_arg : ℕ → ℕ → ℕ → Option (Bool × ℕ)
+filter_arg flag keeps mask = pick (is_on flag) (Some ((is_on keeps), mask)) None
 
 -- five numbers: whether there is a global range, whether there is a filter, its flag and its mask, whether there is a table of own ranges
 abbrev pub config_arg : List ℕ → List ℕ → ProjectionConfig

@@ -8,10 +8,21 @@ ghost use Rattle.manifest_write.specs.Answer.{written};
 ghost use Rattle.exports_forms.specs.Replies.{told};
 
 use crate::Answer;
-use borrows::Owned;
-use manifest_write::Written;
 use records::{Refusal, tell};
 use segments::{Looked, Selected};
+
+// The numbers of an operation that was not refused.
+// inner
+pub fn given(first: usize, second: usize, third: usize) -> Answer
+    ensures { result ≡ record { number = 0; first = first; second = second; third = third } }
+{
+    Answer {
+        number: 0,
+        first,
+        second,
+        third,
+    }
+}
 
 // inner
 pub fn refused_answer(x: Refusal) -> Answer
@@ -26,80 +37,37 @@ pub fn refused_answer(x: Refusal) -> Answer
     }
 }
 
+// How much a call wrote, in bytes or in ids.
 // inner
-pub fn written_answer(x: Written) -> Answer
-    ensures { result ≡ told (written x) }
+pub fn written_answer(x: Result<usize, Refusal>) -> Answer
+    ensures wrote { result ≡ told (written x) }
+    ensures owned { result ≡ told (owned_says x) }
 {
     match x {
-        Written::Done(n) => Answer {
-            number: 0,
-            first: n,
-            second: 0,
-            third: 0,
-        },
-        Written::Refused(r) => refused_answer(r),
+        Ok(n) => given(n, 0, 0),
+        Err(r) => refused_answer(r),
     }
 }
 
 // inner
-pub fn looked_answer(x: Looked) -> Answer
+pub fn looked_answer(x: Result<Looked, Refusal>) -> Answer
     ensures { result ≡ told (looked x) }
 {
     match x {
-        Looked::Unsegmented => Answer {
-            number: 0,
-            first: 0,
-            second: 0,
-            third: 0,
-        },
-        Looked::Segment(i) => Answer {
-            number: 0,
-            first: 1,
-            second: i,
-            third: 0,
-        },
-        Looked::Absent => Answer {
-            number: 0,
-            first: 2,
-            second: 0,
-            third: 0,
-        },
-        Looked::Refused(r) => refused_answer(r),
+        Ok(Looked::Unsegmented) => given(0, 0, 0),
+        Ok(Looked::Segment(i)) => given(1, i, 0),
+        Ok(Looked::Absent) => given(2, 0, 0),
+        Err(r) => refused_answer(r),
     }
 }
 
 // inner
-pub fn selected_answer(x: Selected) -> Answer
+pub fn selected_answer(x: Result<Selected, Refusal>) -> Answer
     ensures { result ≡ told (selected x) }
 {
     match x {
-        Selected::Unsegmented => Answer {
-            number: 0,
-            first: 0,
-            second: 0,
-            third: 0,
-        },
-        Selected::Window(first, past) => Answer {
-            number: 0,
-            first: 1,
-            second: first,
-            third: past,
-        },
-        Selected::Refused(r) => refused_answer(r),
-    }
-}
-
-// inner
-pub fn owned_answer(x: Owned) -> Answer
-    ensures { result ≡ told (owned_says x) }
-{
-    match x {
-        Owned::Done(n) => Answer {
-            number: 0,
-            first: n,
-            second: 0,
-            third: 0,
-        },
-        Owned::Refused(r) => refused_answer(r),
+        Ok(Selected::Unsegmented) => given(0, 0, 0),
+        Ok(Selected::Window(first, past)) => given(1, first, past),
+        Err(r) => refused_answer(r),
     }
 }

@@ -4,7 +4,7 @@ ghost use Rattle.exports_forms.specs.Arguments.{room_fill, range_arg, odd_of, gl
 
 use ids::Uuid;
 use keys::Range;
-use project_ranges::{Filter, Global, ProjectionConfig};
+use project_ranges::ProjectionConfig;
 use records::{Fill, bound_at};
 use tables::ix;
 
@@ -40,30 +40,27 @@ pub fn range_arg(r: &[u64; 6]) -> Range
 pub fn is_odd(r: &[u64; 6]) -> bool
     ensures { result ≡ odd_of r.now }
 {
-    if 2 < r[0] {
-        return true;
-    }
-    2 < r[3]
+    2 < r[0] || 2 < r[3]
 }
 
 // The global range, where there is one.
-fn global_arg(flag: u64, r: &[u64; 6]) -> Global
+fn global_arg(flag: u64, r: &[u64; 6]) -> Option<Range>
     ensures { result ≡ global_arg flag r.now }
 {
     if flag == 0 {
-        return Global::Unset;
+        return None;
     }
-    Global::Set(range_arg(r))
+    Some(range_arg(r))
 }
 
 // The filter, where there is one.
-fn filter_arg(flag: u64, keeps: u64, mask: u64) -> Filter
+fn filter_arg(flag: u64, keeps: u64, mask: u64) -> Option<(bool, u64)>
     ensures { result ≡ filter_arg flag keeps mask }
 {
     if flag == 0 {
-        return Filter::All;
+        return None;
     }
-    Filter::Only(keeps != 0, mask)
+    Some((keeps != 0, mask))
 }
 
 // What a projection is asked for: whether there is a global range, whether there is a filter, its flag and its mask, and whether
@@ -86,10 +83,7 @@ pub fn config_arg(f: &[u64; 5], r: &[u64; 6]) -> ProjectionConfig
 pub fn global_odd(f: &[u64; 5], r: &[u64; 6]) -> bool
     ensures { result ≡ odd_global f.now r.now }
 {
-    if f[0] == 0 {
-        return false;
-    }
-    is_odd(r)
+    f[0] != 0 && is_odd(r)
 }
 
 // An id's two words, the high one first.

@@ -5,7 +5,7 @@
 mod answers;
 mod arguments;
 
-pub use answers::{looked_answer, owned_answer, refused_answer, selected_answer, written_answer};
+pub use answers::{given, looked_answer, refused_answer, selected_answer, written_answer};
 pub use arguments::{config_arg, global_odd, is_odd, range_arg, room_fill, uuid_arg};
 
 // What a call answers: 0 and the operation's numbers, or a refusal's number and place; the rest 0.

@@ -1,5 +1,6 @@
 -- A manifest's own value with a code that stands for nothing breaks L1: what asks for a lawful manifest refuses it, 1 at 1. Assumes that the
 -- table of segments is no longer than a slice can be.
+use Rattle.std.specs.Prelude.{Err}
 use Prim.Native.Nat.{ℕ, ◌<◌, ◌/◌, ◌^◌}
 use mathlib.Core.Path.{◌≡◌}
 use mathlib.Core.Bool.{false}
@@ -15,7 +16,6 @@ use Rattle.measure.specs.Placed.{placed, segments_placed}
 use Rattle.measure.specs.Measure.{l1_of}
 use Rattle.measure.proofs.Lists.{and_false}
 use Rattle.lawful.specs.Judge.{judged_of}
-use Rattle.lawful.specs.declared.Judged.TheVariants.{Breaks}
 use Rattle.exports_tables.specs.Head.{codes_known, nowhere, head_segments, head_at}
 
 -- no slice is so long that the window lies in it
@@ -35,6 +35,6 @@ module _ (lim : Limits) (l : Lent) (t h : List ℕ) (tick : ℤ) (odd : codes_kn
   unfolding placed head_at
   unfounded = rw (segments_nowhere, unplaced (length l.pool)) (rw (and_false _))
 
-  pub odd_breaks : judged_of lim l (head_at t h tick) ≡ Breaks 1
+  pub odd_breaks : judged_of lim l (head_at t h tick) ≡ Err 1
   unfolding judged_of l1_of
   odd_breaks = rw unfounded

@@ -1,4 +1,5 @@
 -- A range argument by its kinds. Assumes nothing.
+use Rattle.std.specs.Prelude.{Err}
 use Prim.Native.Nat.{ℕ}
 use mathlib.Core.Path.{◌≡◌}
 use mathlib.Core.Bool.{true, false}
@@ -8,12 +9,11 @@ use Rattle.records.specs.Limits.{limits01}
 use Rattle.records.specs.declared.ManifestRow.{ManifestRow}
 use Rattle.records.specs.declared.Refusal.TheVariants.{OverLimit}
 use Rattle.segments.specs.Select.{selected_of}
-use Rattle.segments.specs.declared.Selected.TheVariants.{Refused}
 use Rattle.exports_forms.specs.Arguments.{range_arg, odd_of}
 use Rattle.exports_tables.specs.Calls.{select_in}
 
 module _ (r args : List ℕ) (l : Lent) (m : ManifestRow) where
-  pub select_odd : odd_of r ≡ true → Refused OverLimit ≡ select_in r args l m
+  pub select_odd : odd_of r ≡ true → Err OverLimit ≡ select_in r args l m
   unfolding select_in
   select_odd h = rw h
 

@@ -1,5 +1,5 @@
 -- What a call on lent tables answers.
-use Rattle.std.specs.Prelude.{ℕ, List, [], ◌∷◌, pos, replicate}
+use Rattle.std.specs.Prelude.{ℕ, List, [], ◌∷◌, pos, replicate, Err, Ok, Result}
 use Rattle.keys.specs.Pick.{pick}
 use Rattle.records.specs.Decode.{Lent}
 use Rattle.records.specs.Limits.{limits01}
@@ -8,23 +8,21 @@ use Rattle.records.specs.Refusals.{refusal}
 use Rattle.records.specs.declared.ManifestRow.{ManifestRow}
 use Rattle.records.specs.declared.Refusal.TheVariants.{OverLimit}
 use Rattle.copy.specs.Copy.{Outcome}
-use Rattle.copy.specs.declared.Copied.{Copied}
-use Rattle.copy.specs.declared.Copied.TheVariants as copied
 use Rattle.segments.specs.Select.{selected_of}
-use Rattle.segments.specs.declared.Selected.{Selected}
-use Rattle.segments.specs.declared.Selected.TheVariants.{Refused}
 use Rattle.insert.specs.Insert.{Outcome as Inserts, inserted}
-use Rattle.insert.specs.declared.Inserted.{Inserted}
 use Rattle.insert.specs.declared.Inserted.TheVariants as entry
 use Rattle.exports_forms.specs.Replies.{told}
 use Rattle.exports_forms.specs.Arguments.{range_arg, odd_of}
 use Rattle.exports_forms.specs.declared.Answer.{Answer}
 use Rattle.exports_tables.specs.Head.{tree_row, rest_words}
 use Rattle.exports_tables.specs.declared.Laid.{Laid}
+use Rattle.records.specs.declared.Refusal.{Refusal}
+use Rattle.segments.specs.declared.Selected.{Selected}
+use Rattle.insert.specs.declared.Inserted.{Inserted}
 
 -- "2 | .. bound .. over its limit": a kind that stands for nothing is over its limit too
-unfoldable pub select_in : List ℕ → List ℕ → Lent → ManifestRow → Selected
-select_in r args l m = pick (odd_of r) (Refused OverLimit) (selected_of limits01 l m args (range_arg r))
+unfoldable pub select_in : List ℕ → List ℕ → Lent → ManifestRow → Result Selected Refusal
+select_in r args l m = pick (odd_of r) (Err OverLimit) (selected_of limits01 l m args (range_arg r))
 
 -- an answer without a manifest
 abbrev pub bare : Answer → Laid
@@ -40,18 +38,18 @@ pub record Reply : Type 0 where
   pub out : Lent
 
 -- 0 and the manifest's value, or the refusal
-abbrev pub copied_laid : Copied → Laid
-copied_laid (copied.Done m) = headed (told (0 ∷ [])) m
-copied_laid (copied.Refused r) = bare (told (refusal r))
+abbrev pub copied_laid : Result ManifestRow Refusal → Laid
+copied_laid (Ok m) = headed (told (0 ∷ [])) m
+copied_laid (Err r) = bare (told (refusal r))
 
 abbrev pub read_reply : Outcome → Reply
 read_reply o = record { laid = copied_laid o.answer; out = o.out }
 
 -- 0, how the prefix's segment came to be and its index, with the manifest's value where it entered, or the refusal
-abbrev pub inserted_laid : Inserted → Laid
-inserted_laid (entry.Found i) = bare (told (inserted (entry.Found i)))
-inserted_laid (entry.Entered i m) = headed (told (inserted (entry.Entered i m))) m
-inserted_laid (entry.Refused r) = bare (told (refusal r))
+abbrev pub inserted_laid : Result Inserted Refusal → Laid
+inserted_laid (Ok (entry.Found i)) = bare (told (inserted (Ok (entry.Found i))))
+inserted_laid (Ok (entry.Entered i m)) = headed (told (inserted (Ok (entry.Entered i m)))) m
+inserted_laid (Err r) = bare (told (refusal r))
 
 abbrev pub insert_reply : Inserts → Reply
 insert_reply o = record { laid = inserted_laid o.answer; out = o.out }

@@ -1,11 +1,9 @@
 -- A manifest's own value as words.
-use Rattle.std.specs.Prelude.{ℕ, Bool, false, true, ◌&&◌, List, [], ◌∷◌, ltb, leb, ℤ}
+use Rattle.std.specs.Prelude.{ℕ, Bool, false, true, ◌&&◌, List, [], ◌∷◌, ltb, leb, ℤ, None, Option, Some}
 use Rattle.keys.specs.Pick.{pick}
 use Rattle.tables.specs.declared.Window.{Window}
 use Rattle.records.specs.Row.{at, window_at, optional, segment_at}
 use Rattle.records.specs.declared.ManifestRow.{ManifestRow}
-use Rattle.records.specs.declared.Name.{Name}
-use Rattle.records.specs.declared.Name.TheVariants.{Absent, Named}
 use Rattle.records.specs.declared.Place.{Place}
 use Rattle.records.specs.declared.SegmentRow.{SegmentRow}
 
@@ -30,7 +28,7 @@ head_at t h tick =
       initialized = ltb 0 (at h 5);
       tree = (segment_at t 0).tree;
       segments = head_segments t h;
-      segment_extractor_name = optional Absent Named (at h 0) (segment_at t 0).prefix;
+      segment_extractor_name = optional None Some (at h 0) (segment_at t 0).prefix;
       next_wal_sst_id = at h 6;
       replay_after_wal_id = at h 7;
       last_l0_clock_tick = tick;
@@ -43,13 +41,13 @@ head_at t h tick =
 
 -- ---- and the words of it
 
-abbrev pub name_word : Name → ℕ
-name_word Absent = 0
-name_word (Named p) = 1
+abbrev pub name_word : Option Place → ℕ
+name_word None = 0
+name_word (Some p) = 1
 
-abbrev pub name_place : Name → Place
-name_place Absent = record { at = 0; len = 0 }
-name_place (Named p) = p
+abbrev pub name_place : Option Place → Place
+name_place None = record { at = 0; len = 0 }
+name_place (Some p) = p
 
 abbrev pub flag_word : Bool → ℕ
 flag_word false = 0

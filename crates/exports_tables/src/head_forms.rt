@@ -2,23 +2,21 @@
 ghost use Rattle.std.specs.Prelude.{◌≡◌, ◌&&◌, leb};
 ghost use Rattle.keys.specs.Pick.{pick};
 ghost use Rattle.records.specs.Row.{optional};
-ghost use Rattle.records.specs.declared.Name.TheVariants.{Absent, Named};
 ghost use Rattle.exports_tables.specs.Head.{head_at, head_segments, nowhere, name_word, name_place, flag_word, tree_row, rest_words};
 ghost use Rattle.exports_tables.specs.Calls.{bare, headed, copied_laid, inserted_laid};
 
 use crate::Laid;
-use copy::Copied;
-use exports_forms::{Answer, refused_answer};
+use exports_forms::{Answer, given, refused_answer};
 use insert::Inserted;
-use records::{ManifestRow, Name, Place, SegmentRow, segment_at, segment_words};
+use records::{ManifestRow, Place, Refusal, SegmentRow, segment_at, segment_words};
 use tables::{Window, ix};
 
-fn name_of(code: u64, p: Place) -> Name
-    ensures { result ≡ optional Absent Named code p }
+fn name_of(code: u64, p: Place) -> Option<Place>
+    ensures { result ≡ optional None Some code p }
 {
     match code {
-        0 => Name::Absent,
-        _ => Name::Named(p),
+        0 => None,
+        _ => Some(p),
     }
 }
 
@@ -95,31 +93,22 @@ pub fn head_at(tree: &[u64; 12], rest: &[u64; 12], tick: i64) -> ManifestRow
     }
 }
 
-fn name_word(x: Name) -> u64
+fn name_word(x: Option<Place>) -> u64
     ensures { result ≡ name_word x }
 {
-    match x {
-        Name::Absent => 0,
-        Name::Named(_) => 1,
-    }
+    x.is_some() as u64
 }
 
-fn name_place(x: Name) -> Place
+fn name_place(x: Option<Place>) -> Place
     ensures { result ≡ name_place x }
 {
-    match x {
-        Name::Absent => Place { at: 0, len: 0 },
-        Name::Named(p) => p,
-    }
+    x.unwrap_or(Place { at: 0, len: 0 })
 }
 
 fn flag_word(b: bool) -> u64
     ensures { result ≡ flag_word b }
 {
-    if b {
-        return 1;
-    }
-    0
+    b as u64
 }
 
 fn tree_row(m: ManifestRow) -> SegmentRow
@@ -177,42 +166,21 @@ fn headed_answer(answer: Answer, m: ManifestRow) -> Laid
     }
 }
 
-pub fn copied_answer(x: Copied) -> Laid
+pub fn copied_answer(x: Result<ManifestRow, Refusal>) -> Laid
     ensures { result ≡ copied_laid x }
 {
     match x {
-        Copied::Done(m) => headed_answer(
-            Answer {
-                number: 0,
-                first: 0,
-                second: 0,
-                third: 0,
-            },
-            m,
-        ),
-        Copied::Refused(r) => bare_answer(refused_answer(r)),
+        Ok(m) => headed_answer(given(0, 0, 0), m),
+        Err(r) => bare_answer(refused_answer(r)),
     }
 }
 
-pub fn inserted_answer(x: Inserted) -> Laid
+pub fn inserted_answer(x: Result<Inserted, Refusal>) -> Laid
     ensures { result ≡ inserted_laid x }
 {
     match x {
-        Inserted::Found(i) => bare_answer(Answer {
-            number: 0,
-            first: 0,
-            second: i,
-            third: 0,
-        }),
-        Inserted::Entered(i, m) => headed_answer(
-            Answer {
-                number: 0,
-                first: 1,
-                second: i,
-                third: 0,
-            },
-            m,
-        ),
-        Inserted::Refused(r) => bare_answer(refused_answer(r)),
+        Ok(Inserted::Found(i)) => bare_answer(given(0, i, 0)),
+        Ok(Inserted::Entered(i, m)) => headed_answer(given(1, i, 0), m),
+        Err(r) => bare_answer(refused_answer(r)),
     }
 }

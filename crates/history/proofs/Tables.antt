@@ -1,4 +1,5 @@
 -- DEMAND 3 ON LENT TABLES: a chain of calls of insert, each on the tables that the calls before it left, is a history of the model.
+use Rattle.std.specs.Prelude.{Ok}
 use Prim.Native.Nat.{ℕ, ◌≤◌}
 use mathlib.Core.Path.{◌≡◌, refl, sym, ap, ◌∙◌}
 use mathlib.Core.Bool.{Bool, true, false}
@@ -24,7 +25,6 @@ use Rattle.measure.specs.Placed.{placed}
 use Rattle.measure.specs.Measure.{l1_of}
 use Rattle.measure.proofs.Layouts.{id_small, layout_placed, placed_small}
 use Rattle.lawful.specs.Judge.{judged_of}
-use Rattle.lawful.specs.declared.Judged.TheVariants as judged
 use Rattle.copy.specs.Copy.{room_of, laid_over}
 use Rattle.segments.specs.Refuses.{prefix_over}
 use Rattle.segments.specs.Insert.{new_segment, Entry, found, entered, refused, inserted_of, after_entry}
@@ -37,7 +37,7 @@ use Rattle.history.proofs.History.{all_same, history}
 
 -- WHAT THE FUNCTIONS ACCEPT IS LAWFUL: a manifest that the lawful check passes, in tables whose pool is of bytes, is a lawful manifest of
 -- the model, so that the history theorem speaks of it.
-pub lawful_in : (lim : Limits) (l : Lent) (m : ManifestRow) → Bytes l.pool → judged_of lim l m ≡ judged.Lawful → Lawful lim (manifest_in l m)
+pub lawful_in : (lim : Limits) (l : Lent) (m : ManifestRow) → Bytes l.pool → judged_of lim l m ≡ Ok tt → Lawful lim (manifest_in l m)
 unfolding l1_of
 lawful_in lim l m b h =
     let k = lawful_keeps lim l m h in
@@ -56,7 +56,7 @@ pub record Small (m : Manifest) : Type 0 where
   pub each : all_of (λ s. all_of id_small s.tree.runs) m.segments ≡ true
 
 -- WHAT IS LAID OUT IS ACCEPTED AGAIN: the layout of a lawful manifest, over any lent tables, passes the lawful check.
-pub laid_judged : (lim : Limits) (m : Manifest) (o : Lent) → Lawful lim m → Small m → judged_of lim (laid_over o (layout m)) (manifest_row m) ≡ judged.Lawful
+pub laid_judged : (lim : Limits) (m : Manifest) (o : Lent) → Lawful lim m → Small m → judged_of lim (laid_over o (layout m)) (manifest_row m) ≡ Ok tt
 unfolding judged_of l1_of
 laid_judged lim m o law s =
     let l = laid_over o (layout m) in
@@ -81,7 +81,7 @@ unfolding inserted_of
 over_is lim room m p e = rw e
 
 -- on an accepted manifest insert answers what it answers on the model
-pub insert_is : (lim : Limits) (l : Lent) (m : ManifestRow) (p : List ℕ) (o : Lent) → judged_of lim l m ≡ judged.Lawful → insert_of lim l m p o ≡ laid_entry o (inserted_of lim (room_of o) (manifest_in l m) p)
+pub insert_is : (lim : Limits) (l : Lent) (m : ManifestRow) (p : List ℕ) (o : Lent) → judged_of lim l m ≡ Ok tt → insert_of lim l m p o ≡ laid_entry o (inserted_of lim (room_of o) (manifest_in l m) p)
 unfolding insert_of
 insert_is lim l m p o h = go (prefix_over lim p) refl
   where
@@ -90,7 +90,7 @@ insert_is lim l m p o h = go (prefix_over lim p) refl
     go false e = rw (e, h)
 
 -- where the manifest stands after a call stands the model's after the same call
-pub step_is : (lim : Limits) (s : Site) (c : Insertion) → judged_of lim s.tables s.row ≡ judged.Lawful
+pub step_is : (lim : Limits) (s : Site) (c : Insertion) → judged_of lim s.tables s.row ≡ Ok tt
     → standing (after_insert s (insert_of lim s.tables s.row c.prefix c.out)) ≡ after_entry (standing s) (inserted_of lim (room_of c.out) (standing s) c.prefix)
 step_is lim s c h = rw (insert_is lim s.tables s.row c.prefix c.out h) (go (inserted_of lim (room_of c.out) (standing s) c.prefix))
   where
@@ -101,7 +101,7 @@ step_is lim s c h = rw (insert_is lim s.tables s.row c.prefix c.out h) (go (inse
 
 -- what is kept from call to call
 record Fine (lim : Limits) (s : Site) : Type 0 where
-  pub accepted : judged_of lim s.tables s.row ≡ judged.Lawful
+  pub accepted : judged_of lim s.tables s.row ≡ Ok tt
   pub law : Lawful lim (standing s)
   pub small : Small (standing s)
 
@@ -133,13 +133,13 @@ fine_on lim s c b f = rw (insert_is lim s.tables s.row c.prefix c.out f.accepted
 -- ---- all calls
 
 fine_all : (lim : Limits) (s : Site) (cs : List Insertion) → BytesAll (calls_of cs) → Fine lim s
-    → (standing (replay_in lim s cs) ≡ replay lim (standing s) (calls_of cs)) × (judged_of lim (replay_in lim s cs).tables (replay_in lim s cs).row ≡ judged.Lawful)
+    → (standing (replay_in lim s cs) ≡ replay lim (standing s) (calls_of cs)) × (judged_of lim (replay_in lim s cs).tables (replay_in lim s cs).row ≡ Ok tt)
 fine_all lim s [] b f = (refl, f.accepted)
 fine_all lim s (c ∷ cs) (BytesAll.called bp b) f =
     let w = fine_all lim (after_insert s (insert_of lim s.tables s.row c.prefix c.out)) cs b (fine_on lim s c bp f) in
     (w.0 ∙ ap (λ (m : Manifest). replay lim m (calls_of cs)) (step_is lim s c f.accepted), w.1)
 
-fine_in : (lim : Limits) (s : Site) → Bytes s.tables.pool → judged_of lim s.tables s.row ≡ judged.Lawful → Fine lim s
+fine_in : (lim : Limits) (s : Site) → Bytes s.tables.pool → judged_of lim s.tables s.row ≡ Ok tt → Fine lim s
 unfolding l1_of
 fine_in lim s b h =
     let w = placed_small s.tables s.row (and_both (placed s.tables s.row) (within lim (standing s)) (lawful_keeps lim s.tables s.row h).first).0 in
@@ -147,12 +147,12 @@ fine_in lim s b h =
 
 -- After each of any calls on tables that began with an accepted manifest, the manifest that stands is the model's after the same
 -- calls, and insert accepts it.
-pub replay_in_lem : (lim : Limits) (s : Site) → Bytes s.tables.pool → judged_of lim s.tables s.row ≡ judged.Lawful → (cs : List Insertion) → BytesAll (calls_of cs)
-    → (standing (replay_in lim s cs) ≡ replay lim (standing s) (calls_of cs)) × (judged_of lim (replay_in lim s cs).tables (replay_in lim s cs).row ≡ judged.Lawful)
+pub replay_in_lem : (lim : Limits) (s : Site) → Bytes s.tables.pool → judged_of lim s.tables s.row ≡ Ok tt → (cs : List Insertion) → BytesAll (calls_of cs)
+    → (standing (replay_in lim s cs) ≡ replay lim (standing s) (calls_of cs)) × (judged_of lim (replay_in lim s cs).tables (replay_in lim s cs).row ≡ Ok tt)
 replay_in_lem lim s b h cs bs = fine_all lim s cs bs (fine_in lim s b h)
 
 -- "Begin with any lawful manifest and make insertions, some refused. After each, the segments are those worked out afresh from the
 -- start list and all calls so far", on lent tables.
-pub history_in : (lim : Limits) (s : Site) → Bytes s.tables.pool → judged_of lim s.tables s.row ≡ judged.Lawful → (cs : List Insertion) → BytesAll (calls_of cs)
+pub history_in : (lim : Limits) (s : Site) → Bytes s.tables.pool → judged_of lim s.tables s.row ≡ Ok tt → (cs : List Insertion) → BytesAll (calls_of cs)
     → Kept lim (standing s) (afresh lim (standing s) (standing s).segments (calls_of cs)) (standing (replay_in lim s cs))
 history_in lim s b h cs bs = rw (replay_in_lem lim s b h cs bs).0 (history lim (standing s) (lawful_in lim s.tables s.row b h) (calls_of cs) bs)

@@ -1,14 +1,15 @@
 -- Demand 3 on lent tables: calls one after the other, each with output tables of its own.
-use Rattle.std.specs.Prelude.{ℕ, List, [], ◌∷◌}
+use Rattle.std.specs.Prelude.{ℕ, List, [], ◌∷◌, Err, Ok, Result}
 use Rattle.records.specs.Model.{Manifest}
 use Rattle.records.specs.Decode.{Lent, manifest_in}
 use Rattle.records.specs.declared.Limits.{Limits}
 use Rattle.records.specs.declared.ManifestRow.{ManifestRow}
 use Rattle.copy.specs.Copy.{room_of}
 use Rattle.insert.specs.Insert.{Outcome, insert_of}
-use Rattle.insert.specs.declared.Inserted.{Inserted}
-use Rattle.insert.specs.declared.Inserted.TheVariants.{Found, Entered, Refused}
+use Rattle.insert.specs.declared.Inserted.TheVariants.{Found, Entered}
 use Rattle.history.specs.History.{Call}
+use Rattle.insert.specs.declared.Inserted.{Inserted}
+use Rattle.records.specs.declared.Refusal.{Refusal}
 
 -- lent tables with a manifest in them
 pub record Site : Type 0 where
@@ -25,10 +26,10 @@ pub record Insertion : Type 0 where
   pub out : Lent
 
 -- where the prefix entered, the manifest stands in the output tables from then on; else where it stood
-abbrev pub moved : Site → Inserted → Lent → Site
-moved s (Found i) o = s
-moved s (Entered i row) o = record { tables = o; row = row }
-moved s (Refused r) o = s
+abbrev pub moved : Site → Result Inserted Refusal → Lent → Site
+moved s (Ok (Found i)) o = s
+moved s (Ok (Entered i row)) o = record { tables = o; row = row }
+moved s (Err r) o = s
 
 abbrev pub after_insert : Site → Outcome → Site
 after_insert s w = moved s w.answer w.out

@@ -16,7 +16,7 @@ use lib.Seq.{take-suc, take_at, drop_at}
 use borrow.Author.Tests.{lt-ltb, le-ltb, ltb-true, ltb-false}
 use Rattle.keys.specs.Key.{order_of}
 use Rattle.keys.specs.Pick.{pick}
-use Rattle.keys.specs.declared.Order.TheVariants.{Less, Equal, Greater}
+use Rattle.std.specs.declared.cmp.Ordering.TheVariants.{Less, Equal, Greater}
 use Rattle.keys.specs.BigEndian.{be, be_from, be_bytes}
 
 -- one byte more

@@ -4,11 +4,9 @@ use mathlib.Core.Logic.{◌⊎◌, ⊎_elim}
 use mathlib.Core.Logic.◌⊎◌.{inl, inr}
 use mathlib.Core.List.{List, [], ◌∷◌, ◌++◌}
 use mathlib.Core.Bool.{Bool, true, false, ◌||◌, or_assoc}
-use Prim.Native.Nat.{ℕ, zero, suc, ◌+◌, ◌*◌, ◌≤◌, ◌<◌}
-use native.Mathlib.Numerals.{add-one}
+use Prim.Native.Nat.{ℕ, zero, suc, ◌+◌, ◌*◌, ◌<◌}
 use native.Mathlib.Omega.{arith}
-use lib.ListN.{length, get_or, drop, length-drop}
-use lib.Seq.{drop-cons}
+use lib.ListN.{length, get_or}
 use Rattle.keys.specs.Says.{Says, fails}
 use Rattle.keys.proofs.Says.{says_iff, says_or}
 use Rattle.ids.specs.Id.{same_sst_of}
@@ -23,34 +21,38 @@ short [] h = refl
 short (hi ∷ []) h = refl
 short (hi ∷ lo ∷ ws) h = absurd (omega arith)
 
--- what is left of the words from i on names x exactly if the whole does
-pub record Left (ws : List ℕ) (x : SstId) (i : ℕ) : Type 0 where
-  pub inside : i ≤ length ws
-  pub rest : names_of (ids_of (drop i ws)) x ≡ names_of (ids_of ws) x
+-- two words are the first id
+front : (two ws : List ℕ) → length two ≡ 2 → ids_of (two ++ ws) ≡ (get_or two 0 0, get_or two 1 0) ∷ ids_of ws
+unfolding ids_of
+front [] ws h = absurd (omega arith)
+front (hi ∷ []) ws h = absurd (omega arith)
+front (hi ∷ lo ∷ []) ws h = refl
+front (hi ∷ lo ∷ w ∷ two) ws h = absurd (omega arith)
 
-pub left_none : (ws : List ℕ) (x : SstId) → Left ws x 0
-left_none ws x = record { inside = omega arith; rest = refl }
+-- what is left of the words names x exactly if the whole does; they come by two
+pub record Left (ws : List ℕ) (x : SstId) (rest : List ℕ) (size : ℕ) : Type 0 where
+  pub by_two : size ≡ 2
+  pub same : names_of (ids_of rest) x ≡ names_of (ids_of ws) x
 
-module _ (ws : List ℕ) (x : SstId) (i : ℕ) (w : Left ws x i) where
-  -- r is what the test of the id at i answers
-  module _ (r : Bool) (h : i + 1 < length ws) (e : r ≡ same_sst_of (get_or ws i 0, get_or ws (i + 1) 0) x) where
-    by_first : names_of (ids_of ws) x ≡ (r || names_of (ids_of (drop (i + 2) ws)) x)
-    unfolding ids_of names_of
-    by_first =
-        let p : i < length ws = omega arith in
-        let q : suc i < length ws = omega arith in
-        let two : i + 2 ≡ suc (suc i) = omega arith in
-        rw (e, two, add-one i) (sym (rw (drop-cons ws i 0 p, drop-cons ws (suc i) 0 q) at w.rest))
+pub left_none : (ws : List ℕ) (x : SstId) (rest : List ℕ) (size : ℕ) → rest ≡ ws → size ≡ 2 → Left ws x rest size
+left_none ws x rest size e h = record { by_two = h; same = rw e }
+
+module _ (ws : List ℕ) (x : SstId) (rest : List ℕ) (size : ℕ) (w : Left ws x rest size) where
+  -- r is what the test of the first id answers
+  module _ (two later : List ℕ) (p : rest ≡ two ++ later) (h : length two ≡ size) (r : Bool) (e : r ≡ same_sst_of (get_or two 0 0, get_or two 1 0) x) where
+    by_first : names_of (ids_of ws) x ≡ (r || names_of (ids_of later) x)
+    unfolding names_of
+    by_first = sym w.same ∙ rw (p, front two later (h ∙ w.by_two), e)
 
     pub left_here : r ≡ true → true ≡ names_of (ids_of ws) x
     left_here t = sym (rw t at by_first)
 
-    pub left_more : r ≡ false → Left ws x (i + 2)
-    left_more t = record { inside = omega arith; rest = sym (rw t at by_first) }
+    pub left_more : (next : ℕ) → next ≡ size → r ≡ false → Left ws x later next
+    left_more next m t = record { by_two = m ∙ w.by_two; same = sym (rw t at by_first) }
 
-  pub left_all : length ws ≤ i + 1 → false ≡ names_of (ids_of ws) x
+  pub left_all : length rest < size → false ≡ names_of (ids_of ws) x
   unfolding names_of
-  left_all h = let l : length (drop i ws) < 2 = simp length-drop (omega arith) in rw (short (drop i ws) l) at w.rest
+  left_all h = let l : length rest < 2 = rw w.by_two at h in rw (short rest l) at w.same
 
 -- id sets: two lists together name what either names, so neither order nor repetition counts
 pub names_append : (a b : List SstId) (x : SstId) → names_of (a ++ b) x ≡ (names_of a x || names_of b x)

@@ -1,12 +1,12 @@
 // ULIDs and UUIDs: 16 bytes, held as two halves, the high one first.
 #![tactic(auto)]
 
-ghost use Rattle.std.specs.Prelude.{◌≡◌};
+ghost use Rattle.std.specs.Prelude.{◌≡◌, ℕ, refl};
 ghost use Rattle.keys.specs.Key.{order_of};
-ghost use Rattle.ids.specs.Id.{same_of, id_bytes, same_view_of, same_sst_of, marks_view_of, marks_sst_of, sst_bytes, uuid_bytes};
+ghost use Rattle.ids.specs.Id.{same_halves, marks_of, bytes_of};
 ghost use Rattle.ids.specs.Names.{ids_of, names_of};
 
-use keys::Order;
+use std::cmp::Ordering;
 
 // The ULID of a view.
 #[derive(Clone, Copy)]
@@ -20,111 +20,113 @@ pub struct SstId(pub u64, pub u64);
 #[derive(Clone, Copy)]
 pub struct Uuid(pub u64, pub u64);
 
-// A tree's view watermark.
-#[derive(Clone, Copy)]
-pub enum ViewMark {
-    None,
-    Some(ViewId),
+// An id of one of the types: two halves, the high one first.
+pub trait Id: Copy {
+    ghost halves: { Self → ℕ × ℕ };
+
+    ghost of: { ℕ → ℕ → Self };
+
+    // The id of two halves.
+    fn of(high: u64, low: u64) -> Self
+        ensures { result ≡ of high low };
+
+    // The high half and the low one.
+    fn halves(self) -> (u64, u64)
+        ensures { result ≡ halves self };
+
+    ghost halves_of: { (high low : ℕ) → halves (of high low) ≡ (high, low) };
+
+    ghost of_halves: { (x : Self) → of (halves x).0 (halves x).1 ≡ x };
 }
 
-// A tree's SST watermark.
-#[derive(Clone, Copy)]
-pub enum SstMark {
-    None,
-    Some(SstId),
-}
+impl Id for ViewId {
+    ghost halves = { λ x. (x.0, x.1) };
 
-// A borrow's final checkpoint.
-#[derive(Clone, Copy)]
-pub enum Final {
-    None,
-    Some(Uuid),
-}
+    ghost of = { λ high low. (high, low) };
 
-// Whether the halves a, b and c, d are of one id.
-fn same_halves(a: u64, b: u64, c: u64, d: u64) -> bool
-    ensures { result ≡ same_of a b c d }
-{
-    a == c && b == d
-}
+    ghost halves_of = { λ high low. refl };
 
-// How the id of the halves a, b stands to that of c, d.
-fn order_halves(a: u64, b: u64, c: u64, d: u64) -> Order
-    ensures { result ≡ order_of (id_bytes a b) (id_bytes c d) }
-{
-    if a < c {
-        return Order::Less;
+    ghost of_halves = { λ x. refl };
+
+    fn of(high: u64, low: u64) -> ViewId {
+        ViewId(high, low)
     }
-    if c < a {
-        return Order::Greater;
+
+    fn halves(self) -> (u64, u64) {
+        (self.0, self.1)
     }
-    if b < d {
-        return Order::Less;
-    }
-    if d < b {
-        return Order::Greater;
-    }
-    Order::Equal
 }
 
-// Whether two view ids are one.
-pub fn same_view(a: ViewId, b: ViewId) -> bool
-    ensures { result ≡ same_view_of a b }
+impl Id for SstId {
+    ghost halves = { λ x. (x.0, x.1) };
+
+    ghost of = { λ high low. (high, low) };
+
+    ghost halves_of = { λ high low. refl };
+
+    ghost of_halves = { λ x. refl };
+
+    fn of(high: u64, low: u64) -> SstId {
+        SstId(high, low)
+    }
+
+    fn halves(self) -> (u64, u64) {
+        (self.0, self.1)
+    }
+}
+
+impl Id for Uuid {
+    ghost halves = { λ x. (x.0, x.1) };
+
+    ghost of = { λ high low. (high, low) };
+
+    ghost halves_of = { λ high low. refl };
+
+    ghost of_halves = { λ x. refl };
+
+    fn of(high: u64, low: u64) -> Uuid {
+        Uuid(high, low)
+    }
+
+    fn halves(self) -> (u64, u64) {
+        (self.0, self.1)
+    }
+}
+
+// Whether two ids of one type are one.
+pub fn same<I: Id>(a: I, b: I) -> bool
+    ensures { result ≡ same_halves (I.halves a) (I.halves b) }
 {
-    same_halves(a.0, a.1, b.0, b.1)
+    a.halves() == b.halves()
 }
 
-// Whether two SST ids are one.
-pub fn same_sst(a: SstId, b: SstId) -> bool
-    ensures { result ≡ same_sst_of a b }
-{
-    same_halves(a.0, a.1, b.0, b.1)
-}
-
-// Whether a view watermark is there and is `v`.
-pub fn marks_view(m: ViewMark, v: ViewId) -> bool
-    ensures { result ≡ marks_view_of m v }
+// Whether a watermark is there and is `x`.
+pub fn marks<I: Id>(m: Option<I>, x: I) -> bool
+    ensures { result ≡ marks_of (λ w v. same_halves (I.halves w) (I.halves v)) m x }
 {
     match m {
-        ViewMark::None => false,
-        ViewMark::Some(w) => same_view(w, v),
+        None => false,
+        Some(w) => same(w, x),
     }
 }
 
-// Whether an SST watermark is there and is `s`.
-pub fn marks_sst(m: SstMark, s: SstId) -> bool
-    ensures { result ≡ marks_sst_of m s }
+// How two ids of one type stand, as 16 bytes.
+pub fn order<I: Id>(a: I, b: I) -> Ordering
+    ensures { result ≡ order_of (bytes_of (I.halves a)) (bytes_of (I.halves b)) }
 {
-    match m {
-        SstMark::None => false,
-        SstMark::Some(w) => same_sst(w, s),
-    }
-}
-
-// How two SST ids stand, as 16 bytes.
-pub fn order_sst(a: SstId, b: SstId) -> Order
-    ensures { result ≡ order_of (sst_bytes a) (sst_bytes b) }
-{
-    order_halves(a.0, a.1, b.0, b.1)
-}
-
-// How two UUIDs stand, as 16 bytes.
-pub fn order_uuid(a: Uuid, b: Uuid) -> Order
-    ensures { result ≡ order_of (uuid_bytes a) (uuid_bytes b) }
-{
-    order_halves(a.0, a.1, b.0, b.1)
+    let x = a.halves();
+    let y = b.halves();
+    x.cmp(&y)
 }
 
 // Whether `x` is among the ids of a list of words, two words an id.
 pub fn names(ids: &[u64], x: SstId) -> bool
     ensures { result ≡ names_of (ids_of ids.now) x }
 {
-    let mut i = 0;
-    while i + 1 < ids.len() {
-        if same_sst(SstId(ids[i], ids[i + 1]), x) {
+    for words in ids.chunks_exact(2) {
+        if same(SstId(words[0], words[1]), x) {
             return true;
         }
-        i += 2;
     }
     false
 }

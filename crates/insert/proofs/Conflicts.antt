@@ -1,4 +1,5 @@
 -- What the arms of the code know. Assumes nothing.
+use Rattle.std.specs.Prelude.{None, Some}
 use Prim.Native.Nat.{ℕ, zero, suc, ◌+◌, ◌-◌, ◌/◌, ◌^◌, ◌≤◌, ◌<◌, suc-le-suc}
 use mathlib.Core.Path.{◌≡◌, sym, ◌∙◌}
 use mathlib.Core.Bool.{Bool, true, false}
@@ -17,23 +18,12 @@ use Rattle.tables.specs.Window.{held_of}
 use Rattle.tables.specs.declared.Window.{Window}
 use Rattle.tables.proofs.Holds.{up_to_front}
 use Rattle.tables.proofs.Windows.{held_in}
-use Rattle.records.specs.Row.{segment_at}
-use Rattle.records.specs.Decode.{bytes_in}
-use Rattle.records.specs.declared.SegmentRow.{SegmentRow}
 use Rattle.lawful.specs.Steps.{prefix_at}
 use Rattle.segments.specs.Prefixes.{prefix_of, prefixes_in}
 use Rattle.segments.specs.Place.{counted, place_of, extended, begun}
 use Rattle.segments.proofs.Answers.{in_length}
 use Rattle.segments.proofs.Places.{and_both}
 use Rattle.insert.specs.Nesting.{nesting_of}
-use Rattle.insert.specs.declared.Nesting.TheVariants.{Free, Conflict}
-
-module _ (segments pool : List ℕ) (i : ℕ) (s : SegmentRow) (p a : List ℕ) (r : Bool) (at : s ≡ segment_at segments i) (f : a ≡ bytes_in pool s.prefix) where
-  pub extends_at : r ≡ begins_of p a → r ≡ begins_of p (prefix_at segments pool i)
-  extends_at e = rw (← at, ← f) e
-
-  pub leads_at : r ≡ begins_of a p → r ≡ begins_of (prefix_at segments pool i) p
-  leads_at e = rw (← at, ← f) e
 
 up_to_at : (g : ℕ → List ℕ) (n i : ℕ) → i < n → prefix_of (up_to g n) i ≡ g i
 up_to_at g zero i h = absurd (omega arith)
@@ -87,18 +77,18 @@ module _ (segments pool : List ℕ) (w : Window) (p : List ℕ) (place : ℕ) (e
   before_none h = rw (← e, le-ltb 0 place h)
 
   module _ (x : Bool) (f : x ≡ extended (prefixes_in segments pool w) p) where
-    pub nests_after : x ≡ true → Conflict place ≡ nesting_of (prefixes_in segments pool w) p
+    pub nests_after : x ≡ true → Some place ≡ nesting_of (prefixes_in segments pool w) p
     nests_after t = rw (sym f ∙ t, e)
 
     module _ (y : Bool) (t : x ≡ false) (g : y ≡ begun (prefixes_in segments pool w) p) where
-      pub nests_before : y ≡ true → Conflict (place - 1) ≡ nesting_of (prefixes_in segments pool w) p
+      pub nests_before : y ≡ true → Some (place - 1) ≡ nesting_of (prefixes_in segments pool w) p
       nests_before u = rw (sym f ∙ t, sym g ∙ u, e)
 
-      pub nests_none : y ≡ false → Free ≡ nesting_of (prefixes_in segments pool w) p
+      pub nests_none : y ≡ false → None ≡ nesting_of (prefixes_in segments pool w) p
       nests_none u = rw (sym f ∙ t, sym g ∙ u)
 
   pub before_some : (y : Bool) → y ≡ begun (prefixes_in segments pool w) p → y ≡ true → 1 ≤ place
   unfolding begun
   before_some y g u = rw e (ltb-true 0 (place_of (prefixes_in segments pool w) p) (and_both _ _ (sym g ∙ u)).0)
 
-pub ruleset conflicts = (extends_at, leads_at, after_in, after_fits, after_is, after_none, before_in, before_fits, before_is, before_none, nests_after, nests_before, nests_none, before_some)
+pub ruleset conflicts = (after_in, after_fits, after_is, after_none, before_in, before_fits, before_is, before_none, nests_after, nests_before, nests_none, before_some)

@@ -8,8 +8,8 @@ use lib.ListN.{length}
 use borrow.Author.Tests.{lt-ltb, le-ltb}
 use Rattle.keys.specs.Says.{Says, holds, fails}
 use Rattle.keys.specs.Key.{order_of, less_of, is_equal}
-use Rattle.keys.specs.declared.Order.{Order}
-use Rattle.keys.specs.declared.Order.TheVariants.{Less, Equal, Greater}
+use Rattle.std.specs.declared.cmp.Ordering.{Ordering}
+use Rattle.std.specs.declared.cmp.Ordering.TheVariants.{Less, Equal, Greater}
 use Rattle.keys.proofs.Says.{false_says, says_lt}
 use Rattle.keys.proofs.ByteOrder.{Stand, stand, below_irrefl}
 use Rattle.tables.specs.Window.{held_of}
@@ -28,7 +28,7 @@ use Rattle.insert.proofs.Conflicts.{row_is}
 pub says_equal : (a b : List ℕ) → Says (a ≡ b) (same_of a b)
 says_equal a b = go (stand a b)
   where
-    go : {o : Order} → Stand a b o → Says (a ≡ b) (is_equal o)
+    go : {o : Ordering} → Stand a b o → Says (a ≡ b) (is_equal o)
     go (Stand.less h) = fails (λ e. below_irrefl (rw e at h))
     go (Stand.same e) = holds e
     go (Stand.more h) = fails (λ e. below_irrefl (rw e at h))
@@ -47,7 +47,7 @@ module _ (p : List ℕ) where
   found_lead [] l e = absurd (omega arith)
   found_lead (x ∷ ps) l e = go (order_of x p) refl (found_lead ps)
     where
-      go : (o : Order) → order_of x p ≡ o → (leading (λ q. less_of q p) ps < length ps → same_of (prefix_of ps (leading (λ q. less_of q p) ps)) p ≡ true → leading (λ q. not (same_of q p)) ps ≡ leading (λ q. less_of q p) ps)
+      go : (o : Ordering) → order_of x p ≡ o → (leading (λ q. less_of q p) ps < length ps → same_of (prefix_of ps (leading (λ q. less_of q p) ps)) p ≡ true → leading (λ q. not (same_of q p)) ps ≡ leading (λ q. less_of q p) ps)
           → leading (λ q. not (same_of q p)) (x ∷ ps) ≡ leading (λ q. less_of q p) (x ∷ ps)
       go Less h ih = let l' = rw h at l in let e' = rw h at e in rw h (ap suc (ih (omega arith) e'))
       go Equal h ih = rw h
@@ -61,7 +61,7 @@ module _ (p : List ℕ) where
       w : (all_of (less_of x) ps ≡ true) × (pairs less_of ps ≡ true)
       w = and_both (all_of (less_of x) ps) (pairs less_of ps) a
 
-      go : (o : Order) → order_of x p ≡ o → ((leading (λ q. less_of q p) ps < length ps → same_of (prefix_of ps (leading (λ q. less_of q p) ps)) p ≡ false) → leading (λ q. not (same_of q p)) ps ≡ length ps)
+      go : (o : Ordering) → order_of x p ≡ o → ((leading (λ q. less_of q p) ps < length ps → same_of (prefix_of ps (leading (λ q. less_of q p) ps)) p ≡ false) → leading (λ q. not (same_of q p)) ps ≡ length ps)
           → leading (λ q. not (same_of q p)) (x ∷ ps) ≡ length (x ∷ ps)
       go Less h ih = let n' = rw h at n in rw h (ap suc (ih (λ l. n' (omega arith))))
       go Equal h ih = let n' = rw h at n in absurd (true≢false (sym (ap is_equal h) ∙ n' (omega arith)))

@@ -1,4 +1,5 @@
 -- A window's segments with one more among them, laid part by part. Assumes nothing.
+use Rattle.std.specs.Prelude.{None}
 use Prim.Native.Nat.{ℕ, zero, suc, ◌+◌, ◌-◌, ◌/◌, ◌≤◌}
 use mathlib.Core.Path.{◌≡◌, refl, sym, ap, ◌∙◌}
 use mathlib.Core.List.{List, [], ◌∷◌, ◌++◌, append_assoc, append-nil}
@@ -7,8 +8,6 @@ use native.Mathlib.Nat.{add-zero, add-suc, add_assoc}
 use lib.Dec.{leb}
 use lib.ListN.{length, length-append}
 use borrow.Author.Tests.{le-leb}
-use Rattle.ids.specs.declared.ViewMark.TheVariants as view_marks
-use Rattle.ids.specs.declared.SstMark.TheVariants as sst_marks
 use Rattle.tables.specs.Layout.{write, up_to, joined}
 use Rattle.tables.specs.Window.{held_of}
 use Rattle.tables.specs.declared.Window.{Window}
@@ -35,7 +34,7 @@ abbrev pub new_row : ℕ → SegmentRow
 new_row n =
     record {
       prefix = record { at = 0; len = n };
-      tree = record { view = view_marks.None; sst = sst_marks.None; l0 = record { first = 0; count = 0 }; compacted = record { first = 0; count = 0 } };
+      tree = record { view = None; sst = None; l0 = record { first = 0; count = 0 }; compacted = record { first = 0; count = 0 } };
     }
 
 none_held : (first n : ℕ) → held_of (record { first = first; count = 0 }) n ≡ 0

@@ -10,15 +10,14 @@ ghost use Rattle.records.specs.Fill.{manifest_fill};
 ghost use Rattle.measure.specs.Measure.{l1_of};
 ghost use Rattle.measure.specs.Walk.{add_of};
 ghost use Rattle.lawful.specs.Judge.{judged_of};
-ghost use Rattle.lawful.specs.declared.Judged.TheVariants.{Lawful};
 ghost use Rattle.copy.specs.Copy.{room_of};
 ghost use Rattle.segments.specs.Prefixes.{prefixes_in};
 ghost use Rattle.segments.specs.Place.{place_of};
 ghost use Rattle.segments.specs.Insert.{inserted_of};
 ghost use Rattle.insert.specs.Insert.{new_fill, entered_of, laid_entry, insert_of};
 
-use lawful::{Judged, lawful};
-use measure::{Measured, add, fits_in, measure};
+use lawful::lawful;
+use measure::{add, fits_in, measure};
 use prefix_nests::{check_segment_prefix_antichain, is_held};
 use records::{Fill, Limits, ManifestRow, Refusal};
 use segments::find_place;
@@ -30,14 +29,6 @@ use with_one_more::put_entered;
 pub enum Inserted {
     Found(usize),
     Entered(usize, ManifestRow),
-    Refused(Refusal),
-}
-
-// What stands in the way of a prefix: nothing, or the segment that it nests with.
-#[derive(Clone, Copy)]
-pub enum Nesting {
-    Free,
-    Conflict(usize),
 }
 
 // ---- insert
@@ -54,15 +45,11 @@ pub fn filled_with(
     pool: &[u8],
     m: ManifestRow,
     len: usize,
-) -> Measured
+) -> Option<Fill>
     requires { l1_of lim (record { segments = segments.now; views = views.now; runs = runs.now; borrows = borrows.now; ids = ids.now; pool = pool.now }) m ≡ true }
     ensures { result ≡ add_of lim.fill (manifest_fill (manifest_in (record { segments = segments.now; views = views.now; runs = runs.now; borrows = borrows.now; ids = ids.now; pool = pool.now }) m)) (new_fill len) }
 {
-    let s = measure(lim, segments, views, runs, borrows, ids, pool, m);
-    let Measured::Fills(f) = s else {
-        return Measured::Broken;
-    };
-    let most = lim.fill;
+    let f = measure(lim, segments, views, runs, borrows, ids, pool, m)?;
     let more = Fill {
         segments: 1,
         views: 0,
@@ -71,7 +58,7 @@ pub fn filled_with(
         ids: 0,
         bytes: len,
     };
-    add(most, f, more)
+    add(lim.fill, f, more)
 }
 
 // Enters an empty tree at the place of a prefix that is neither held nor nested.
@@ -92,16 +79,23 @@ fn enter(
     out_borrows: &mut [u64],
     out_ids: &mut [u64],
     out_pool: &mut [u8],
-) -> Inserted
+) -> Result<Inserted, Refusal>
     requires m_value { l1_of lim (record { segments = segments.now; views = views.now; runs = runs.now; borrows = borrows.now; ids = ids.now; pool = pool.now }) m ≡ true }
     requires place_value { place ≡ place_of (prefixes_in segments.now pool.now m.segments) prefix.now }
     ensures { record { answer = result; out = record { segments = out_segments.new; views = out_views.new; runs = out_runs.new; borrows = out_borrows.new; ids = out_ids.new; pool = out_pool.new } } ≡ laid_entry (record { segments = out_segments.old; views = out_views.old; runs = out_runs.old; borrows = out_borrows.old; ids = out_ids.old; pool = out_pool.old }) (entered_of lim (room_of (record { segments = out_segments.old; views = out_views.old; runs = out_runs.old; borrows = out_borrows.old; ids = out_ids.old; pool = out_pool.old })) (manifest_in (record { segments = segments.now; views = views.now; runs = runs.now; borrows = borrows.now; ids = ids.now; pool = pool.now }) m) prefix.now) }
 {
-    let len = prefix.len();
-    let s = filled_with(lim, segments, views, runs, borrows, ids, pool, m, len);
-    let Measured::Fills(result) = s else {
-        return Inserted::Refused(Refusal::NoRoom);
-    };
+    let result = filled_with(
+        lim,
+        segments,
+        views,
+        runs,
+        borrows,
+        ids,
+        pool,
+        m,
+        prefix.len(),
+    )
+    .ok_or(Refusal::NoRoom)?;
     let room = Fill {
         segments: out_segments.len() / 12,
         views: out_views.len() / 16,
@@ -111,7 +105,7 @@ fn enter(
         bytes: out_pool.len(),
     };
     if !fits_in(result, room) {
-        return Inserted::Refused(Refusal::NoRoom);
+        return Err(Refusal::NoRoom);
     }
     let row = put_entered(
         segments,
@@ -130,7 +124,7 @@ fn enter(
         out_ids,
         out_pool,
     );
-    Inserted::Entered(place, row)
+    Ok(Inserted::Entered(place, row))
 }
 
 // Insert where the manifest was judged, and the prefix is not over its limit.
@@ -151,19 +145,19 @@ pub fn insert_judged(
     out_borrows: &mut [u64],
     out_ids: &mut [u64],
     out_pool: &mut [u8],
-) -> Inserted
-    requires m_value { judged_of lim (record { segments = segments.now; views = views.now; runs = runs.now; borrows = borrows.now; ids = ids.now; pool = pool.now }) m ≡ Lawful }
+) -> Result<Inserted, Refusal>
+    requires m_value { judged_of lim (record { segments = segments.now; views = views.now; runs = runs.now; borrows = borrows.now; ids = ids.now; pool = pool.now }) m ≡ Ok tt }
     requires prefix_len_bound { length prefix.now ≤ lim.prefix }
     ensures { record { answer = result; out = record { segments = out_segments.new; views = out_views.new; runs = out_runs.new; borrows = out_borrows.new; ids = out_ids.new; pool = out_pool.new } } ≡ laid_entry (record { segments = out_segments.old; views = out_views.old; runs = out_runs.old; borrows = out_borrows.old; ids = out_ids.old; pool = out_pool.old }) (inserted_of lim (room_of (record { segments = out_segments.old; views = out_views.old; runs = out_runs.old; borrows = out_borrows.old; ids = out_ids.old; pool = out_pool.old })) (manifest_in (record { segments = segments.now; views = views.now; runs = runs.now; borrows = borrows.now; ids = ids.now; pool = pool.now }) m) prefix.now) }
 {
     let w = m.segments;
     let place = find_place(segments, pool, w, prefix);
     if is_held(segments, pool, w, prefix, place) {
-        return Inserted::Found(place);
+        return Ok(Inserted::Found(place));
     }
     match check_segment_prefix_antichain(segments, pool, w, prefix, place) {
-        Nesting::Conflict(i) => Inserted::Refused(Refusal::Nests(i)),
-        Nesting::Free => enter(
+        Some(i) => Err(Refusal::Nests(i)),
+        None => enter(
             lim,
             segments,
             views,
@@ -201,14 +195,15 @@ pub fn maybe_insert_tree(
     out_borrows: &mut [u64],
     out_ids: &mut [u64],
     out_pool: &mut [u8],
-) -> Inserted
+) -> Result<Inserted, Refusal>
     ensures { record { answer = result; out = record { segments = out_segments.new; views = out_views.new; runs = out_runs.new; borrows = out_borrows.new; ids = out_ids.new; pool = out_pool.new } } ≡ insert_of lim (record { segments = segments.now; views = views.now; runs = runs.now; borrows = borrows.now; ids = ids.now; pool = pool.now }) m prefix.now (record { segments = out_segments.old; views = out_views.old; runs = out_runs.old; borrows = out_borrows.old; ids = out_ids.old; pool = out_pool.old }) }
 {
     if lim.prefix < prefix.len() {
-        return Inserted::Refused(Refusal::OverLimit);
+        return Err(Refusal::OverLimit);
     }
+    // A `match`: what `map_err` makes of a variant's name is not proved.
     match lawful(lim, segments, views, runs, borrows, ids, pool, m) {
-        Judged::Lawful => insert_judged(
+        Ok(()) => insert_judged(
             lim,
             segments,
             views,
@@ -225,6 +220,6 @@ pub fn maybe_insert_tree(
             out_ids,
             out_pool,
         ),
-        Judged::Breaks(rule) => Inserted::Refused(Refusal::Unlawful(rule)),
+        Err(rule) => Err(Refusal::Unlawful(rule)),
     }
 }

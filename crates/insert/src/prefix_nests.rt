@@ -9,10 +9,8 @@ ghost use Rattle.segments.specs.Place.{place_of, extended, begun};
 ghost use Rattle.segments.specs.Insert.{holds_of};
 ghost use Rattle.insert.specs.Nesting.{nesting_of};
 
-use crate::Nesting;
-use keys::{begins, part};
-use records::segment_at;
-use segments::is_other;
+use keys::begins;
+use segments::{is_other, prefix_at};
 use tables::{Window, held};
 
 // Whether the prefix of row `i` begins with `prefix`.
@@ -20,9 +18,7 @@ fn extends(segments: &[u64], pool: &[u8], i: usize, prefix: &[u8]) -> bool
     requires { i < length segments.now / 12 }
     ensures { result ≡ begins_of prefix.now (prefix_at segments.now pool.now i) }
 {
-    let s = segment_at(segments, i);
-    let p = s.prefix;
-    begins(prefix, part(pool, p.at, p.len))
+    begins(prefix, prefix_at(segments, pool, i))
 }
 
 // Whether `prefix` begins with the prefix of row `i`.
@@ -30,9 +26,7 @@ fn leads(segments: &[u64], pool: &[u8], i: usize, prefix: &[u8]) -> bool
     requires { i < length segments.now / 12 }
     ensures { result ≡ begins_of (prefix_at segments.now pool.now i) prefix.now }
 {
-    let s = segment_at(segments, i);
-    let p = s.prefix;
-    begins(part(pool, p.at, p.len), prefix)
+    begins(prefix_at(segments, pool, i), prefix)
 }
 
 fn is_extended(segments: &[u64], pool: &[u8], w: Window, prefix: &[u8], place: usize) -> bool
@@ -64,17 +58,17 @@ pub fn check_segment_prefix_antichain(
     w: Window,
     prefix: &[u8],
     place: usize,
-) -> Nesting
+) -> Option<usize>
     requires { place ≡ place_of (prefixes_in segments.now pool.now w) prefix.now }
     ensures { result ≡ nesting_of (prefixes_in segments.now pool.now w) prefix.now }
 {
     if is_extended(segments, pool, w, prefix, place) {
-        return Nesting::Conflict(place);
+        return Some(place);
     }
     if is_begun(segments, pool, w, prefix, place) {
-        return Nesting::Conflict(place - 1);
+        return Some(place - 1);
     }
-    Nesting::Free
+    None
 }
 
 // ---- held

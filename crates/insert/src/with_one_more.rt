@@ -8,12 +8,11 @@ ghost use Rattle.records.specs.Words.{segment_words};
 ghost use Rattle.records.specs.Layout.{tree_row, tree_runs_laid, tree_views_laid, tree_bytes, past_prefix, segment_row, segments_laid, segments_runs_laid, segments_views_laid, segment_bytes};
 ghost use Rattle.copy.specs.Copy.{room_of};
 ghost use Rattle.segments.specs.Insert.{new_segment, put, entered};
-ghost use Rattle.insert.specs.Insert.{entered_at, laid_entry};
 ghost use Rattle.insert.specs.declared.Inserted.TheVariants.{Entered};
+ghost use Rattle.insert.specs.Insert.{entered_at, laid_entry};
 
 use copy::{manifest_row, put_rest};
 use emit::{LaidTree, put_segment, put_segments, put_tree};
-use ids::{SstMark, ViewMark};
 use records::{Fill, ManifestRow, Place, SegmentRow, TreeRow};
 use tables::{Window, held};
 
@@ -39,8 +38,8 @@ fn put_new(
     ensures out_pool_after { out_pool.new ≡ write out_pool.old c.bytes (segment_bytes (new_segment prefix.now)) }
 {
     let tree = TreeRow {
-        view: ViewMark::None,
-        sst: SstMark::None,
+        view: None,
+        sst: None,
         l0: Window { first: 0, count: 0 },
         compacted: Window { first: 0, count: 0 },
     };
@@ -170,8 +169,6 @@ fn put_trees_with(
         bytes: 0,
     };
     let laid = put_tree(t, runs, views, pool, out_runs, out_views, out_pool, none);
-    let tree = laid.tree;
-    let at = laid.past;
     let past = put_segments_with(
         segments,
         w,
@@ -184,9 +181,12 @@ fn put_trees_with(
         out_runs,
         out_views,
         out_pool,
-        at,
+        laid.past,
     );
-    LaidTree { tree, past }
+    LaidTree {
+        tree: laid.tree,
+        past,
+    }
 }
 
 // Lays the manifest with an empty segment at place `i` out at the front of the tables.
@@ -209,16 +209,13 @@ pub fn put_entered(
 ) -> ManifestRow
     requires i_bound { i ≤ held_of m.segments (length segments.now / 12) }
     requires out_pool_value { fits (manifest_fill (entered_at i prefix.now (manifest_in (record { segments = segments.now; views = views.now; runs = runs.now; borrows = borrows.now; ids = ids.now; pool = pool.now }) m))) (room_of (record { segments = out_segments.old; views = out_views.old; runs = out_runs.old; borrows = out_borrows.old; ids = out_ids.old; pool = out_pool.old })) ≡ true }
-    ensures { record { answer = Entered i result; out = record { segments = out_segments.new; views = out_views.new; runs = out_runs.new; borrows = out_borrows.new; ids = out_ids.new; pool = out_pool.new } } ≡ laid_entry (record { segments = out_segments.old; views = out_views.old; runs = out_runs.old; borrows = out_borrows.old; ids = out_ids.old; pool = out_pool.old }) (entered i (entered_at i prefix.now (manifest_in (record { segments = segments.now; views = views.now; runs = runs.now; borrows = borrows.now; ids = ids.now; pool = pool.now }) m))) }
+    ensures { record { answer = Ok (Entered i result); out = record { segments = out_segments.new; views = out_views.new; runs = out_runs.new; borrows = out_borrows.new; ids = out_ids.new; pool = out_pool.new } } ≡ laid_entry (record { segments = out_segments.old; views = out_views.old; runs = out_runs.old; borrows = out_borrows.old; ids = out_ids.old; pool = out_pool.old }) (entered i (entered_at i prefix.now (manifest_in (record { segments = segments.now; views = views.now; runs = runs.now; borrows = borrows.now; ids = ids.now; pool = pool.now }) m))) }
 {
-    let t = m.tree;
-    let w = m.segments;
-    let n = m.segment_extractor_name;
     let b = m.external_dbs;
     let laid = put_trees_with(
-        t,
+        m.tree,
         segments,
-        w,
+        m.segments,
         i,
         prefix,
         runs,
@@ -229,8 +226,17 @@ pub fn put_entered(
         out_views,
         out_pool,
     );
-    let tree = laid.tree;
     let at = laid.past;
-    let name = put_rest(n, borrows, b, ids, pool, out_borrows, out_ids, out_pool, at);
-    manifest_row(m, tree, at.segments, name, held(b, borrows.len() / 9))
+    let name = put_rest(
+        m.segment_extractor_name,
+        borrows,
+        b,
+        ids,
+        pool,
+        out_borrows,
+        out_ids,
+        out_pool,
+        at,
+    );
+    manifest_row(m, laid.tree, at.segments, name, held(b, borrows.len() / 9))
 }

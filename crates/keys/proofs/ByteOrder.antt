@@ -9,8 +9,8 @@ use native.Mathlib.Omega.{arith}
 use native.Mathlib.Nat.{lt_trans}
 use lib.Dec.{ltb}
 use borrow.Author.Tests.{lt-ltb, le-ltb, ltb-true, ltb-false}
-use Rattle.keys.specs.declared.Order.{Order}
-use Rattle.keys.specs.declared.Order.TheVariants.{Less, Equal, Greater}
+use Rattle.std.specs.declared.cmp.Ordering.{Ordering}
+use Rattle.std.specs.declared.cmp.Ordering.TheVariants.{Less, Equal, Greater}
 use Rattle.keys.specs.Pick.{pick}
 use Rattle.keys.specs.Says.{Says, holds, fails}
 use Rattle.keys.specs.Key.{order_of, is_less, less_of, Below, UpTo}
@@ -82,7 +82,7 @@ up_to_below (UpTo.next h) (Below.here k) = Below.here k
 up_to_below (UpTo.next h) (Below.next k) = Below.next (up_to_below h k)
 
 -- the three ways in which two keys stand
-pub data Stand (a b : List ℕ) : Order → Type 0 where
+pub data Stand (a b : List ℕ) : Ordering → Type 0 where
   less : Below a b → Stand a b Less
   same : a ≡ b → Stand a b Equal
   more : Below b a → Stand a b Greater
@@ -101,7 +101,7 @@ stand_n x y = go (ltb x y) refl (ltb y x) refl
     go false e false f = let p : y ≤ x = ltb-false x y e in let q : x ≤ y = ltb-false y x f in same_n (omega arith)
 
 -- where the first bytes are the same, the rest decides
-next_stand : {x : ℕ} {a b : List ℕ} {o : Order} → Stand a b o → Stand (x ∷ a) (x ∷ b) o
+next_stand : {x : ℕ} {a b : List ℕ} {o : Ordering} → Stand a b o → Stand (x ∷ a) (x ∷ b) o
 next_stand (less h) = less (Below.next h)
 next_stand {x} (same h) = same (ap (λ l. x ∷ l) h)
 next_stand (more h) = more (Below.next h)
@@ -119,10 +119,10 @@ stand (x ∷ a) (y ∷ b) = go (stand_n x y) (stand a b)
     go (more_n h) s = rw (lt-ltb y x h) (rw (le-ltb x y (omega arith)) (more (Below.here h)))
     go (same_n e) s = rw (← e) (rw (le-ltb x x (omega arith)) (next_stand s))
 
-pub stand_order : {a b : List ℕ} {o : Order} → Stand a b o → order_of a b ≡ o
+pub stand_order : {a b : List ℕ} {o : Ordering} → Stand a b o → order_of a b ≡ o
 stand_order {a} {b} s = go (stand a b) s
   where
-    go : {p q : Order} → Stand a b p → Stand a b q → p ≡ q
+    go : {p q : Ordering} → Stand a b p → Stand a b q → p ≡ q
     go (less h) (less k) = refl
     go (less h) (same k) = absurd (below_irrefl (rw k at h))
     go (less h) (more k) = absurd (below_irrefl (below_trans h k))
@@ -134,7 +134,7 @@ stand_order {a} {b} s = go (stand a b) s
     go (more h) (more k) = refl
 
 -- from the answer to the fact
-pub stands : (a b : List ℕ) (o : Order) → order_of a b ≡ o → Stand a b o
+pub stands : (a b : List ℕ) (o : Ordering) → order_of a b ≡ o → Stand a b o
 stands a b o e = rw e at (stand a b)
 
 pub of_less : {a b : List ℕ} → Stand a b Less → Below a b
@@ -150,7 +150,7 @@ of_more (more h) = h
 pub either : (a b : List ℕ) → Below a b ⊎ UpTo b a
 either a b = go (stand a b)
   where
-    go : {o : Order} → Stand a b o → Below a b ⊎ UpTo b a
+    go : {o : Ordering} → Stand a b o → Below a b ⊎ UpTo b a
     go (less h) = inl h
     go (same h) = inr (rw h (up_to_refl b))
     go (more h) = inr (up h)
@@ -166,7 +166,7 @@ below_cons (Below.next h) = inr (refl, h)
 pub up_to_not : {a b : List ℕ} → UpTo a b → (a ≡ b → ⊥) → Below a b
 up_to_not {a} {b} h n = go (stand a b)
   where
-    go : {o : Order} → Stand a b o → Below a b
+    go : {o : Ordering} → Stand a b o → Below a b
     go (less l) = l
     go (same e) = absurd (n e)
     go (more l) = absurd (not_both l h)
@@ -174,7 +174,7 @@ up_to_not {a} {b} h n = go (stand a b)
 pub says_less : (a b : List ℕ) → Says (Below a b) (less_of a b)
 says_less a b = go (stand a b)
   where
-    go : {o : Order} → Stand a b o → Says (Below a b) (is_less o)
+    go : {o : Ordering} → Stand a b o → Says (Below a b) (is_less o)
     go (less h) = holds h
     go (same h) = fails (λ l. below_irrefl (rw h at l))
     go (more h) = fails (λ l. below_irrefl (below_trans h l))

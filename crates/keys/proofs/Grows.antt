@@ -1,5 +1,6 @@
 -- The successor as the code finds it, from the end, is the one of the definition.
-use Prim.Native.Nat.{ℕ, zero, suc, ◌+◌, ◌-◌, ◌≤◌, ◌<◌}
+use Rattle.std.specs.Prelude.{None, Some}
+use Prim.Native.Nat.{ℕ, zero, suc, ◌-◌, ◌≤◌, ◌<◌}
 use mathlib.Core.Path.{◌≡◌, refl, sym, ap, ◌∙◌}
 use mathlib.Core.List.{List, [], ◌∷◌, ◌++◌}
 use mathlib.Core.Bool.{Bool, true, false}
@@ -8,7 +9,6 @@ use lib.Dec.{ltb}
 use lib.ListN.{length, get_or, take, length-append}
 use lib.Seq.{take-suc, take_all, length-take-le}
 use borrow.Author.Tests.{lt-ltb, le-ltb}
-use Rattle.keys.specs.declared.Successor.TheVariants.{Nowhere, Grown}
 use Rattle.keys.specs.Pick.{pick}
 use Rattle.keys.specs.Prefix.{keep_before, without_ff, last_up, after, left_of, successor_of, grown_top}
 
@@ -46,9 +46,9 @@ last_drops : (q : List ℕ) (x : ℕ) → 255 ≤ x → without_ff (q ++ x ∷ [
 last_drops [] x h = rw (le-ltb x 255 h)
 last_drops (y ∷ q) x h = rw (last_drops q x h)
 
-left_snoc : (q : List ℕ) (x : ℕ) → left_of (q ++ x ∷ []) ≡ Grown (suc (length q))
+left_snoc : (q : List ℕ) (x : ℕ) → left_of (q ++ x ∷ []) ≡ Some (suc (length q))
 left_snoc [] x = refl
-left_snoc (y ∷ q) x = ap (λ n. Grown (suc n)) (rw (length-append q (x ∷ [])) (omega arith))
+left_snoc (y ∷ q) x = ap (λ n. Some (suc n)) (rw (length-append q (x ∷ [])) (omega arith))
 
 -- the bytes from n on are FF: the first n decide
 pub record Dropped (p : List ℕ) (n : ℕ) : Type 0 where
@@ -63,7 +63,7 @@ take_last p zero h k = absurd (omega arith)
 take_last p (suc n) h k = let e : suc n - 1 ≡ n = omega arith in rw e (take-suc p n 0 (omega arith))
 
 module _ (p : List ℕ) (n : ℕ) (w : Dropped p n) where
-  pub dropped_grows : 0 < n → get_or p (n - 1) 0 < 255 → Grown n ≡ successor_of p
+  pub dropped_grows : 0 < n → get_or p (n - 1) 0 < 255 → Some n ≡ successor_of p
   unfolding successor_of
   dropped_grows h l =
       let q : List ℕ = take (n - 1) p in
@@ -78,7 +78,7 @@ module _ (p : List ℕ) (n : ℕ) (w : Dropped p n) where
         rest = sym (last_drops (take (n - 1) p) (get_or p (n - 1) 0) l) ∙ (rw (take_last p n h w.within) at w.rest);
       }
 
-  pub dropped_all : n ≤ 0 → Nowhere ≡ successor_of p
+  pub dropped_all : n ≤ 0 → None ≡ successor_of p
   unfolding successor_of
   dropped_all h = let e : n ≡ 0 = omega arith in let s : without_ff p ≡ [] = sym (rw e at w.rest) in rw s
 

@@ -4,7 +4,6 @@ use mathlib.Core.Path.{◌≡◌, sym, ◌∙◌}
 use mathlib.Core.Bool.{Bool, true, false}
 use mathlib.Core.List.{List, []}
 use mathlib.Core.Logic.{◌↔◌}
-use native.Mathlib.Omega.{arith}
 use native.Mathlib.Nat.{add-sub_cancel_left}
 use lib.Dec.{leb}
 use lib.ListN.{length, get_or, take, drop}
@@ -18,21 +17,12 @@ use Rattle.keys.specs.Prefix.{Bytes}
 use Rattle.keys.specs.declared.Range.{Range}
 use Rattle.keys.specs.Range.{Empty, empty_of}
 use Rattle.keys.specs.Pool.{part_of, edge_of, edges_of, inside_of}
-use Rattle.keys.proofs.Says.{says_same, says_le}
 use Rattle.keys.proofs.Prefixes.{bytes_of}
 use Rattle.keys.proofs.Ranges.{BytesE, empty_law}
 
 module _ (n at len : ℕ) where
-  pub fits_in : at ≤ n → leb len (n - at) ≡ leb (at + len) n
-  fits_in h = says_same (λ k. omega arith, λ k. omega arith) (says_le len (n - at)) (says_le (at + len) n)
-
-  pub fits_out : n < at → false ≡ leb (at + len) n
-  fits_out h = sym (lt-leb (at + len) n (omega arith))
-
   pub fits_true : (r : Bool) → r ≡ leb (at + len) n → r ≡ true → at + len ≤ n
   fits_true r e h = leb-true (at + len) n (sym e ∙ h)
-
-pub ruleset fit = (fits_in, fits_out, fits_true)
 
 -- ---- what a place names
 module _ (pool : List ℕ) (at len : ℕ) where
@@ -49,6 +39,8 @@ module _ (pool : List ℕ) (at len : ℕ) where
 
   pub part_none : (r : Bool) → r ≡ leb (at + len) (length pool) → r ≡ false → [] ≡ part_of pool at len
   part_none r e h = part_outside (leb-false (at + len) (length pool) (sym e ∙ h))
+
+pub ruleset parts = (fits_true, part_read, part_none)
 
 module _ (n : ℕ) (b : Bound) where
   pub inside_free : b ≡ Unbounded → true ≡ inside_of n b

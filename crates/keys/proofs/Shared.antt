@@ -1,72 +1,26 @@
--- The length of the common start: the keys agree before it and part at it, and what is left of them from there on decides.
-use Prim.Native.Nat.{ℕ, zero, suc, ◌+◌, ◌≤◌, ◌<◌}
-use mathlib.Core.Path.{◌≡◌, refl, ◌∙◌}
+-- The length of the common start, and the library's order of slices and test of a prefix. Assumes nothing.
+use Prim.Native.Nat.{ℕ, suc, min, ◌+◌, ◌≤◌, ◌<◌}
+use mathlib.Core.Path.{◌≡◌, refl, ap, ◌∙◌}
 use mathlib.Core.List.{List, [], ◌∷◌}
-use mathlib.Core.Bool.{Bool, true, false}
+use mathlib.Core.Bool.{◌&&◌}
 use native.Mathlib.Omega.{arith}
 use native.Mathlib.Numerals.{add-one}
-use lib.Dec.{eqb, eqb-suc-suc}
-use lib.ListN.{length, get_or, drop, drop_of_length-le}
+use native.Mathlib.Decide.{dec_lt}
+use lib.Dec.{ltb, eqb}
+use lib.ListN.{length, get_or, take, drop, drop_of_length-le}
+use lib.Pointwise.{pointwise}
 use lib.Seq.{drop-cons}
-use borrow.Author.Tests.{lt-ltb, le-ltb, eq-eqb, ne_eqb, eqb-true, eqb-false}
-use Rattle.keys.specs.declared.Order.TheVariants.{Less, Equal, Greater}
+use borrow.Author.Tests.{lt-ltb, le-ltb, eq-eqb, ne_eqb}
+use Rattle.std.proofs.Math.Nat.{min-le_left, min-le_right, le-min}
+use Rattle.std.specs.declared.cmp.Ordering.{Ordering}
+use Rattle.std.specs.declared.cmp.Ordering.TheVariants.{Less, Equal, Greater}
+use Rattle.std.specs.Ordering.{MatchOrdering, nat_cmp, ordering_then}
+use Rattle.std.specs.Cmp.{ranks}
+use Rattle.std.specs.Cmp.Lexicographic.{slice_cmp}
+use Rattle.std.specs.Prelude.{nat_eq}
 use Rattle.keys.specs.Pick.{pick}
 use Rattle.keys.specs.Key.{order_of, shared_of}
 use Rattle.keys.specs.Prefix.{begins_of}
-
--- how two keys part after n bytes
-pub data Parted : List ℕ → List ℕ → ℕ → Type 0 where
-  left : {b : List ℕ} → Parted [] b 0
-  right : {x : ℕ} {a : List ℕ} → Parted (x ∷ a) [] 0
-  here : {x y : ℕ} {a b : List ℕ} → (x ≡ y → ⊥) → Parted (x ∷ a) (y ∷ b) 0
-  next : {x : ℕ} {a b : List ℕ} {n : ℕ} → Parted a b n → Parted (x ∷ a) (x ∷ b) (suc n)
-
-pub parted : (a b : List ℕ) → Parted a b (shared_of a b)
-unfolding shared_of
-parted [] b = left
-parted (x ∷ a) [] = right
-parted (x ∷ a) (y ∷ b) = go (eqb x y) refl (parted a b)
-  where
-    go : (t : Bool) → eqb x y ≡ t → Parted a b (shared_of a b) → Parted (x ∷ a) (y ∷ b) (pick t (suc (shared_of a b)) 0)
-    go true e p = rw (← eqb-true x y e) (next p)
-    go false e p = here (eqb-false x y e)
-
--- what is before agrees
-pub parted_same : {a b : List ℕ} {n : ℕ} → Parted a b n → (i : ℕ) → i < n → get_or a i 0 ≡ get_or b i 0
-parted_same left i h = absurd (omega arith)
-parted_same right i h = absurd (omega arith)
-parted_same (here e) i h = absurd (omega arith)
-parted_same (next p) zero h = refl
-parted_same (next p) (suc i) h = parted_same p i (omega arith)
-
--- what is at it differs
-pub parted_differ : {a b : List ℕ} {n : ℕ} → Parted a b n → n < length a → n < length b → get_or a n 0 ≡ get_or b n 0 → ⊥
-parted_differ left h k = absurd (omega arith)
-parted_differ right h k = absurd (omega arith)
-parted_differ (here e) h k = e
-parted_differ (next p) h k = parted_differ p (omega arith) (omega arith)
-
-pub parted_within : {a b : List ℕ} {n : ℕ} → Parted a b n → (n ≤ length a) × (n ≤ length b)
-parted_within left = (omega arith, omega arith)
-parted_within right = (omega arith, omega arith)
-parted_within (here e) = (omega arith, omega arith)
-parted_within (next p) = let w = parted_within p in (omega arith, omega arith)
-
--- the order by it
-pub parted_order : {a b : List ℕ} {n : ℕ} → Parted a b n → order_of (drop n a) (drop n b) ≡ order_of a b
-unfolding order_of
-parted_order left = refl
-parted_order right = refl
-parted_order (here e) = refl
-parted_order (next {x = x} p) = rw (le-ltb x x (omega arith)) (parted_order p)
-
--- beginning by it
-pub parted_begins : {p k : List ℕ} {n : ℕ} → Parted p k n → eqb n (length p) ≡ begins_of p k
-unfolding begins_of
-parted_begins left = refl
-parted_begins (right {a = a}) = ne_eqb 0 (suc (length a)) (λ e. omega arith)
-parted_begins (here {x = x} {y = y} {a = a} e) = rw (ne_eqb x y e) (ne_eqb 0 (suc (length a)) (λ e. omega arith))
-parted_begins (next {x = x} {a = a} {n = n} p) = rw (eq-eqb x x refl) (eqb-suc-suc n (length a) ∙ parted_begins p)
 
 -- ---- the loop: what is common is i bytes, and what is common of the rest
 pub record Walked (a b : List ℕ) (i : ℕ) : Type 0 where
@@ -81,54 +35,64 @@ module _ (a b : List ℕ) (i : ℕ) (w : Walked a b i) where
   ends : shared_of (drop i a) (drop i b) ≡ 0 → i ≡ shared_of a b
   ends e = let h : i + shared_of (drop i a) (drop i b) ≡ shared_of a b = w.rest in omega arith
 
-  pub walked_left : length a ≤ i → i ≡ shared_of a b
+  walked_left : length a ≤ i → i ≡ shared_of a b
   unfolding shared_of
   walked_left h = ends (rw (drop_of_length-le a h))
 
-  pub walked_right : i < length a → length b ≤ i → i ≡ shared_of a b
+  walked_right : i < length a → length b ≤ i → i ≡ shared_of a b
   unfolding shared_of
   walked_right h k = ends (rw (drop-cons a i 0 h, drop_of_length-le b k))
 
-  pub walked_here : i < length a → i < length b → (get_or a i 0 ≡ get_or b i 0 → ⊥) → i ≡ shared_of a b
-  unfolding shared_of
-  walked_here h k n = ends (rw (drop-cons a i 0 h, drop-cons b i 0 k, ne_eqb _ _ n))
+  -- n is the length of the shorter
+  module _ (n : ℕ) (m : n ≡ min (length a) (length b)) where
+    in_both : i < n → (i < length a) × (i < length b)
+    in_both h =
+        let p = min-le_left (length a) (length b) in
+        let q = min-le_right (length a) (length b) in
+        (omega arith, omega arith)
 
-  pub walked_next : i < length a → i < length b → get_or a i 0 ≡ get_or b i 0 → Walked a b (i + 1)
-  unfolding shared_of
-  walked_next h k e =
-      let step : i + suc (shared_of (drop (suc i) a) (drop (suc i) b)) ≡ shared_of a b = rw (drop-cons a i 0 h, drop-cons b i 0 k, eq-eqb _ _ e) at w.rest in
-      record { in_a = omega arith; in_b = omega arith; rest = rw (add-one i) (omega arith) }
+    pub walked_here : i < n → (get_or a i 0 ≡ get_or b i 0 → ⊥) → i ≡ shared_of a b
+    unfolding shared_of
+    walked_here h e =
+        let p = in_both h in
+        ends (rw (drop-cons a i 0 p.0, drop-cons b i 0 p.1, ne_eqb _ _ e))
 
-pub ruleset walk = (walked_none, walked_next, walked_left, walked_right, walked_here)
+    pub walked_next : i < n → get_or a i 0 ≡ get_or b i 0 → Walked a b (i + 1)
+    unfolding shared_of
+    walked_next h e =
+        let p = in_both h in
+        let step : i + suc (shared_of (drop (suc i) a) (drop (suc i) b)) ≡ shared_of a b = rw (drop-cons a i 0 p.0, drop-cons b i 0 p.1, eq-eqb _ _ e) at w.rest in
+        record { in_a = omega (arith, p.0); in_b = omega (arith, p.1); rest = rw (add-one i) (omega arith) }
 
--- ---- the comparison: one look at the bytes after the common start
-module _ (a b : List ℕ) (n : ℕ) (e : n ≡ shared_of a b) where
-  at : Parted a b n
-  at = rw e (parted a b)
+    pub walked_all : n ≤ i → i ≤ n → n ≡ shared_of a b
+    walked_all h k =
+        let e : n ≡ i = omega arith in
+        e ∙ elim (dec_lt i (length a)) [
+          | yes p ↦ elim (dec_lt i (length b)) [
+            | yes q ↦ (let l : suc i ≤ min (length a) (length b) = le-min (omega arith) (omega arith) in absurd (omega arith))
+            | no q ↦ walked_right p (omega arith)
+          ]
+          | no p ↦ walked_left (omega arith)
+        ]
 
-  pub order_same : length b ≤ n → length a ≤ n → Equal ≡ order_of a b
-  unfolding order_of
-  order_same h k = rw (drop_of_length-le a k, drop_of_length-le b h) at (parted_order at)
+pub ruleset walk = (walked_none, walked_next, walked_all, walked_here)
 
-  pub order_right : length b ≤ n → n < length a → Greater ≡ order_of a b
-  unfolding order_of
-  order_right h k = rw (drop-cons a n 0 k, drop_of_length-le b h) at (parted_order at)
+-- ---- the library's order of slices, and its test of a prefix, are those of the definitions
+pub order_is : (a b : List ℕ) → slice_cmp nat_cmp a b ≡ order_of a b
+unfolding order_of
+order_is [] [] = refl
+order_is [] (y ∷ b) = refl
+order_is (x ∷ a) [] = refl
+order_is (x ∷ a) (y ∷ b) = go (nat_cmp x y) (ranks x y) (order_is a b)
+  where
+    go : (r : Ordering) → MatchOrdering r (x < y) (x ≡ y) (y < x) → slice_cmp nat_cmp a b ≡ order_of a b
+        → ordering_then r (slice_cmp nat_cmp a b) ≡ pick (ltb x y) Less (pick (ltb y x) Greater (order_of a b))
+    go Less h e = rw (lt-ltb x y h)
+    go Equal h e = rw (le-ltb x y (omega arith), le-ltb y x (omega arith)) e
+    go Greater h e = rw (le-ltb x y (omega arith), lt-ltb y x h)
 
-  pub order_left : n < length b → length a ≤ n → Less ≡ order_of a b
-  unfolding order_of
-  order_left h k = rw (drop_of_length-le a k, drop-cons b n 0 h) at (parted_order at)
-
-  pub order_less : n < length b → n < length a → get_or a n 0 < get_or b n 0 → Less ≡ order_of a b
-  unfolding order_of
-  order_less h k l = rw (drop-cons a n 0 k, drop-cons b n 0 h, lt-ltb _ _ l) at (parted_order at)
-
-  pub order_more : n < length b → n < length a → get_or b n 0 ≤ get_or a n 0 → Greater ≡ order_of a b
-  unfolding order_of
-  order_more h k l =
-      let m : get_or b n 0 < get_or a n 0 = let d = parted_differ at k h in omega arith in
-      rw (drop-cons a n 0 k, drop-cons b n 0 h, le-ltb (get_or a n 0) (get_or b n 0) l, lt-ltb (get_or b n 0) (get_or a n 0) m) at (parted_order at)
-
-pub ruleset orders = (order_same, order_right, order_left, order_less, order_more)
-
-pub begins_by : (p k : List ℕ) (n : ℕ) → n ≡ shared_of p k → eqb n (length p) ≡ begins_of p k
-begins_by p k n e = rw e (parted_begins (parted p k))
+pub begins_is : (p k : List ℕ) → pointwise nat_eq p (take (length p) k) ≡ begins_of p k
+unfolding begins_of
+begins_is [] k = refl
+begins_is (x ∷ p) [] = refl
+begins_is (x ∷ p) (y ∷ k) = ap (λ r. eqb x y && r) (begins_is p k)

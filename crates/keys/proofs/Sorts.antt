@@ -6,8 +6,8 @@ use mathlib.Core.Logic.{◌↔◌}
 use native.Mathlib.Omega.{arith}
 use lib.Dec.{ltb}
 use borrow.Author.Tests.{lt-ltb, le-ltb}
-use Rattle.keys.specs.declared.Order.{Order}
-use Rattle.keys.specs.declared.Order.TheVariants.{Less, Equal, Greater}
+use Rattle.std.specs.declared.cmp.Ordering.{Ordering}
+use Rattle.std.specs.declared.cmp.Ordering.TheVariants.{Less, Equal, Greater}
 use Rattle.keys.specs.Pick.{pick}
 use Rattle.keys.specs.Key.{order_of, is_less, Below, UpTo}
 use Rattle.keys.specs.Range.{Edge, unbounded, included, excluded, From, To}
@@ -15,12 +15,12 @@ use Rattle.keys.specs.Meet.{or_else, start_order, end_order, later, earlier}
 use Rattle.keys.proofs.ByteOrder.{Stand, less, same, more, stand, stand_order, StandN, less_n, same_n, more_n, stand_n, up, up_to_refl, up_to_trans, not_both, stands, of_same}
 
 -- ---- what an order says: at most, and the other way round
-abbrev pub AtMost : Order → Type 0
+abbrev pub AtMost : Ordering → Type 0
 AtMost Less = Unit
 AtMost Equal = Unit
 AtMost Greater = ⊥
 
-abbrev pub turn : Order → Order
+abbrev pub turn : Ordering → Ordering
 turn Less = Greater
 turn Equal = Equal
 turn Greater = Less
@@ -28,7 +28,7 @@ turn Greater = Less
 pub up_to_order : (a b : List ℕ) → UpTo a b ↔ AtMost (order_of a b)
 up_to_order a b = go (stand a b)
   where
-    go : {o : Order} → Stand a b o → UpTo a b ↔ AtMost o
+    go : {o : Ordering} → Stand a b o → UpTo a b ↔ AtMost o
     go (less h) = (λ _. tt, λ _. up h)
     go (same h) = (λ _. tt, λ _. rw h (up_to_refl b))
     go (more h) = (λ k. not_both h k, λ k. absurd k)
@@ -36,7 +36,7 @@ up_to_order a b = go (stand a b)
 below_order : (a b : List ℕ) → Below a b ↔ AtMost (or_else (order_of a b) Greater)
 below_order a b = go (stand a b)
   where
-    go : {o : Order} → Stand a b o → Below a b ↔ AtMost (or_else o Greater)
+    go : {o : Ordering} → Stand a b o → Below a b ↔ AtMost (or_else o Greater)
     go (less h) = (λ _. tt, λ _. h)
     go (same h) = (λ k. not_both k (rw h (up_to_refl b)), λ k. absurd k)
     go (more h) = (λ k. not_both h (up k), λ k. absurd k)
@@ -44,13 +44,13 @@ below_order a b = go (stand a b)
 pub order_turn : (a b : List ℕ) → order_of b a ≡ turn (order_of a b)
 order_turn a b = go (stand a b)
   where
-    go : {o : Order} → Stand a b o → order_of b a ≡ turn o
+    go : {o : Ordering} → Stand a b o → order_of b a ≡ turn o
     go (less h) = stand_order (more h)
     go (same h) = stand_order (same (sym h))
     go (more h) = stand_order (less h)
 
 -- ---- any order of edges that is the byte order of their names
-module _ (ord : Edge → Edge → Order) (name : Edge → List ℕ) (is : (s t : Edge) → ord s t ≡ order_of (name s) (name t)) where
+module _ (ord : Edge → Edge → Ordering) (name : Edge → List ℕ) (is : (s t : Edge) → ord s t ≡ order_of (name s) (name t)) where
   turn_by : (s t : Edge) → ord t s ≡ turn (ord s t)
   turn_by s t = rw (is s t, is t s) (order_turn (name s) (name t))
 
@@ -64,11 +64,11 @@ module _ (ord : Edge → Edge → Order) (name : Edge → List ℕ) (is : (s t :
       (up_to_trans ((up_to_order (name s) (name t)).1 (rw (is s t) at h)) ((up_to_order (name t) (name u)).1 (rw (is t u) at k))))
 
 -- of two edges the second where the first is less, else the first: neither is above it
-above_by : (ord : Edge → Edge → Order) → ((s t : Edge) → ord t s ≡ turn (ord s t)) → ((s : Edge) → AtMost (ord s s)) → (s t : Edge)
+above_by : (ord : Edge → Edge → Ordering) → ((s t : Edge) → ord t s ≡ turn (ord s t)) → ((s : Edge) → AtMost (ord s s)) → (s t : Edge)
     → AtMost (ord s (pick (is_less (ord s t)) t s)) × AtMost (ord t (pick (is_less (ord s t)) t s))
 above_by ord flip self s t = go (ord s t) refl (flip s t)
   where
-    go : (o : Order) → ord s t ≡ o → ord t s ≡ turn o → AtMost (ord s (pick (is_less o) t s)) × AtMost (ord t (pick (is_less o) t s))
+    go : (o : Ordering) → ord s t ≡ o → ord t s ≡ turn o → AtMost (ord s (pick (is_less o) t s)) × AtMost (ord t (pick (is_less o) t s))
     go Less e f = (rw e tt, self t)
     go Equal e f = (self s, rw f tt)
     go Greater e f = (self s, rw f tt)
@@ -92,7 +92,7 @@ code_order f g l m (x ∷ a) (y ∷ b) = go (stand_n x y) (code_order f g l m a 
     go (same_n h) e = rw (← h) (rw (le-ltb x x (omega arith), le-ltb (x + 2) (x + 2) (omega arith)) e)
     go (more_n h) e = rw (le-ltb x y (omega arith), lt-ltb y x h, le-ltb (x + 2) (y + 2) (omega arith), lt-ltb (y + 2) (x + 2) (omega arith))
 
-pub or_equal : (o : Order) → or_else o Equal ≡ o
+pub or_equal : (o : Ordering) → or_else o Equal ≡ o
 or_equal Less = refl
 or_equal Equal = refl
 or_equal Greater = refl
@@ -160,7 +160,7 @@ pub earlier_below : (s t : Edge) → AtMost (end_order (earlier s t) s) × AtMos
 earlier_below = above_by (λ s t. end_order t s) (λ s t. end_turn t s) end_self
 
 -- ---- bounds that are equal in an order are the same
-or_second : (o q : Order) → or_else o q ≡ Equal → q ≡ Equal
+or_second : (o q : Ordering) → or_else o q ≡ Equal → q ≡ Equal
 or_second Less q e = cc
 or_second Equal q e = e
 or_second Greater q e = cc

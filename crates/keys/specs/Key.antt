@@ -1,22 +1,21 @@
 -- "A key is any byte string." Keys are ordered as bytes.
 use Rattle.std.specs.Prelude.{ℕ, suc, ◌<◌, List, [], ◌∷◌, Bool, true, false, ltb, eqb}
-use Rattle.keys.specs.declared.Order.{Order}
-use Rattle.keys.specs.declared.Order.TheVariants.{Less, Equal, Greater}
+use Rattle.std.specs.declared.cmp.Ordering.{Ordering}
+use Rattle.std.specs.declared.cmp.Ordering.TheVariants.{Less, Equal, Greater}
+use Rattle.std.specs.Ordering.{is_lt}
 use Rattle.keys.specs.Pick.{pick}
 
 -- The first byte that differs decides. Of two keys one of which begins the other, the shorter is less.
-unfoldable pub order_of : List ℕ → List ℕ → Order
+unfoldable pub order_of : List ℕ → List ℕ → Ordering
 order_of [] [] = Equal
 order_of [] (y ∷ b) = Less
 order_of (x ∷ a) [] = Greater
 order_of (x ∷ a) (y ∷ b) = pick (ltb x y) Less (pick (ltb y x) Greater (order_of a b))
 
-abbrev pub is_less : Order → Bool
-is_less Less = true
-is_less Equal = false
-is_less Greater = false
+abbrev pub is_less : Ordering → Bool
+is_less = is_lt
 
-abbrev pub is_equal : Order → Bool
+abbrev pub is_equal : Ordering → Bool
 is_equal Less = false
 is_equal Equal = true
 is_equal Greater = false

@@ -1,7 +1,5 @@
 -- Prefixes: what begins with what, and a prefix's successor.
-use Rattle.std.specs.Prelude.{ℕ, ◌+◌, ◌<◌, List, [], ◌∷◌, Bool, true, false, ◌&&◌, ltb, eqb, length, take}
-use Rattle.keys.specs.declared.Successor.{Successor}
-use Rattle.keys.specs.declared.Successor.TheVariants.{Nowhere, Grown}
+use Rattle.std.specs.Prelude.{ℕ, ◌+◌, ◌<◌, List, [], ◌∷◌, Bool, true, false, ◌&&◌, ltb, eqb, length, take, None, Option, Some}
 use Rattle.keys.specs.Pick.{pick}
 use Rattle.keys.specs.Key.{Below, less_of}
 
@@ -58,14 +56,14 @@ unfoldable pub after : List ℕ → Top
 after p = last_up (without_ff p)
 
 -- The same as the code answers it: how many bytes are left.
-abbrev pub left_of : List ℕ → Successor
-left_of [] = Nowhere
-left_of (x ∷ q) = Grown (length (x ∷ q))
+abbrev pub left_of : List ℕ → Option ℕ
+left_of [] = None
+left_of (x ∷ q) = Some (length (x ∷ q))
 
-unfoldable pub successor_of : List ℕ → Successor
+unfoldable pub successor_of : List ℕ → Option ℕ
 successor_of p = left_of (without_ff p)
 
 -- what that says of p: its first n bytes, the last of them one more
-abbrev pub grown_top : List ℕ → Successor → Top
-grown_top p Nowhere = nowhere
-grown_top p (Grown n) = last_up (take n p)
+abbrev pub grown_top : List ℕ → Option ℕ → Top
+grown_top p None = nowhere
+grown_top p (Some n) = last_up (take n p)

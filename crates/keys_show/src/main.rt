@@ -5,7 +5,8 @@
 // ordered as the text words it, a successor as the least byte string above all that begin with the prefix.
 #![tactic(auto)]
 
-use keys::{Bound, Order, Range, Successor};
+use keys::{Bound, Range};
+use std::cmp::Ordering;
 use std::io;
 
 // The bytes in hexadecimal, two digits each.
@@ -29,20 +30,17 @@ fn put_pair(rt: &impl Print, a: &[u8], word: &str, b: &[u8]) -> io::Result<()> {
     put_key(rt, b)
 }
 
-fn put_order(rt: &impl Print, o: Order) -> io::Result<()> {
-    match o {
-        Order::Less => println!(rt; ": less"),
-        Order::Equal => println!(rt; ": equal"),
-        Order::Greater => println!(rt; ": greater"),
-    }
+fn put_order(rt: &impl Print, o: Ordering) -> io::Result<()> {
+    let word = match o {
+        Ordering::Less => "less",
+        Ordering::Equal => "equal",
+        Ordering::Greater => "greater",
+    };
+    println!(rt; ": {word}")
 }
 
 fn put_answer(rt: &impl Print, yes: bool) -> io::Result<()> {
-    if yes {
-        println!(rt; ": yes")
-    } else {
-        println!(rt; ": no")
-    }
+    println!(rt; ": {}", if yes { "yes" } else { "no" })
 }
 
 fn put_bound(rt: &impl Print, pool: &[u8], b: Bound) -> io::Result<()> {
@@ -94,8 +92,8 @@ fn show_successor(rt: &impl Print, p: &[u8]) -> io::Result<()> {
     print!(rt; "successor of ")?;
     put_key(rt, p)?;
     match keys::successor_of(p) {
-        Successor::Nowhere => println!(rt; ": none"),
-        Successor::Grown(n) => {
+        None => println!(rt; ": none"),
+        Some(n) => {
             print!(rt; ": ")?;
             if 0 < n {
                 if n <= p.len() {
@@ -116,16 +114,32 @@ fn show_below(rt: &impl Print, k: &[u8], p: &[u8]) -> io::Result<()> {
     put_answer(rt, keys::below_successor(k, p))
 }
 
-fn show_starts(rt: &impl Print, pool: &[u8], a: Bound, b: Bound) -> io::Result<()> {
-    print!(rt; "start ")?;
+fn show_bounds(
+    rt: &impl Print,
+    word: &str,
+    pool: &[u8],
+    a: Bound,
+    b: Bound,
+    o: Ordering,
+) -> io::Result<()> {
+    print!(rt; "{word}")?;
     put_bounds(rt, pool, a, " beside ", b)?;
-    put_order(rt, keys::start_order(pool, a, pool, b))
+    put_order(rt, o)
+}
+
+fn show_starts(rt: &impl Print, pool: &[u8], a: Bound, b: Bound) -> io::Result<()> {
+    show_bounds(
+        rt,
+        "start ",
+        pool,
+        a,
+        b,
+        keys::start_order(pool, a, pool, b),
+    )
 }
 
 fn show_ends(rt: &impl Print, pool: &[u8], a: Bound, b: Bound) -> io::Result<()> {
-    print!(rt; "end ")?;
-    put_bounds(rt, pool, a, " beside ", b)?;
-    put_order(rt, keys::end_order(pool, a, pool, b))
+    show_bounds(rt, "end ", pool, a, b, keys::end_order(pool, a, pool, b))
 }
 
 fn show_empty(rt: &impl Print, pool: &[u8], r: Range) -> io::Result<()> {

@@ -1,4 +1,5 @@
 -- What the arms of the code know: of prefixes, of a last key, of a view, of two tests in a row. Assumes nothing.
+use Rattle.std.specs.Prelude.{None, Option, Some}
 use Prim.Native.Nat.{ℕ}
 use mathlib.Core.Path.{◌≡◌, refl, sym, ap, ◌∙◌}
 use mathlib.Core.Bool.{Bool, true, false, not, ◌&&◌}
@@ -15,10 +16,6 @@ use Rattle.records.specs.Model.{physical, last_end, seen_edges, effective}
 use Rattle.records.specs.Row.{segment_at, view_at}
 use Rattle.records.specs.Decode.{bytes_in, last_in, seen_in, view_in}
 use Rattle.records.specs.declared.Place.{Place}
-use Rattle.records.specs.declared.Last.{Last}
-use Rattle.records.specs.declared.Last.TheVariants.{Unknown, Known}
-use Rattle.records.specs.declared.Visible.{Visible}
-use Rattle.records.specs.declared.Visible.TheVariants.{All, Only}
 use Rattle.records.specs.declared.ViewRow.{ViewRow}
 use Rattle.records.specs.declared.SegmentRow.{SegmentRow}
 use Rattle.lawful.specs.Law.{not_above, view_lawful, last_below, follows}
@@ -43,37 +40,37 @@ module _ (t : List ℕ → List ℕ → Bool) (segments pool : List ℕ) (i j : 
   prefixes_not = ap not prefixes_by
 
 -- ---- a last key
-module _ (pool : List ℕ) (last : Last) (first : Place) where
-  pub below_free : last ≡ Unknown → true ≡ last_below (last_in pool last) (bytes_in pool first)
+module _ (pool : List ℕ) (last : Option Place) (first : Place) where
+  pub below_free : last ≡ None → true ≡ last_below (last_in pool last) (bytes_in pool first)
   below_free e = rw e
 
-  pub ordered_free : last ≡ Unknown → true ≡ not_above (bytes_in pool first) (last_in pool last)
+  pub ordered_free : last ≡ None → true ≡ not_above (bytes_in pool first) (last_in pool last)
   ordered_free e = rw e
 
-  module _ (p : Place) (a b : List ℕ) (r : Bool) (e : last ≡ Known p) (f : a ≡ bytes_in pool p) (g : b ≡ bytes_in pool first) (h : r ≡ less_of a b) where
+  module _ (p : Place) (a b : List ℕ) (r : Bool) (e : last ≡ Some p) (f : a ≡ bytes_in pool p) (g : b ≡ bytes_in pool first) (h : r ≡ less_of a b) where
     pub below_known : r ≡ last_below (last_in pool last) (bytes_in pool first)
     below_known = rw e (rw (← f, ← g) h)
 
     pub ordered_known : not r ≡ not_above (bytes_in pool first) (last_in pool last)
     ordered_known = rw e (rw (← f, ← g) (ap not h))
 
-pub bound_free : (last : Last) → last ≡ Unknown → Unbounded ≡ last_bound last
+pub bound_free : (last : Option Place) → last ≡ None → Unbounded ≡ last_bound last
 bound_free last e = rw e
 
-pub bound_known : (last : Last) (p : Place) → last ≡ Known p → Included p.at p.len ≡ last_bound last
+pub bound_known : (last : Option Place) (p : Place) → last ≡ Some p → Included p.at p.len ≡ last_bound last
 bound_known last p e = rw e
 
-pub seen_all : (visible : Visible) → visible ≡ All → record { start = Unbounded; end = Unbounded } ≡ seen_row visible
+pub seen_all : (visible : Option Range) → visible ≡ None → record { start = Unbounded; end = Unbounded } ≡ seen_row visible
 seen_all visible e = rw e
 
-pub seen_only : (visible : Visible) (r : Range) → visible ≡ Only r → r ≡ seen_row visible
+pub seen_only : (visible : Option Range) (r : Range) → visible ≡ Some r → r ≡ seen_row visible
 seen_only visible r e = rw e
 
 pub ruleset lasts = (below_free, ordered_free, below_known, ordered_known, bound_free, bound_known, seen_all, seen_only)
 
 -- ---- a view
 pub hidden_by :
-    (pool : List ℕ) (first : Place) (last : Last) (visible : Visible) (e : Bound) (seen met : Range) (r : Bool)
+    (pool : List ℕ) (first : Place) (last : Option Place) (visible : Option Range) (e : Bound) (seen met : Range) (r : Bool)
     → e ≡ last_bound last → seen ≡ seen_row visible → met ≡ meet_in pool (record { start = Included first.at first.len; end = e }) seen
     → r ≡ empty_of (edge_of pool met.start) (edge_of pool met.end) → r ≡ hidden_of pool first last visible
 unfolding hidden_of
@@ -84,13 +81,13 @@ hidden_by pool first last visible e seen met r p q m h =
     in
     h ∙ ap (λ (z : Range). empty_of (edge_of pool z.start) (edge_of pool z.end)) is
 
-pub last_edge : (pool : List ℕ) (last : Last) → edge_of pool (last_bound last) ≡ last_end (last_in pool last)
-last_edge pool Unknown = refl
-last_edge pool (Known p) = refl
+pub last_edge : (pool : List ℕ) (last : Option Place) → edge_of pool (last_bound last) ≡ last_end (last_in pool last)
+last_edge pool None = refl
+last_edge pool (Some p) = refl
 
-pub seen_edges_lem : (pool : List ℕ) (visible : Visible) → edges_of pool (seen_row visible) ≡ seen_edges (seen_in pool visible)
-seen_edges_lem pool All = refl
-seen_edges_lem pool (Only r) = refl
+pub seen_edges_lem : (pool : List ℕ) (visible : Option Range) → edges_of pool (seen_row visible) ≡ seen_edges (seen_in pool visible)
+seen_edges_lem pool None = refl
+seen_edges_lem pool (Some r) = refl
 
 hidden_is : (pool : List ℕ) (v : ViewRow) → hidden_of pool v.first v.last v.visible ≡ empty_of (effective (view_in pool v)).start (effective (view_in pool v)).end
 unfolding hidden_of view_in

@@ -14,13 +14,6 @@ use records::{Limits, ManifestRow};
 pub use run_laws::l5;
 pub use view_laws::{l4, last_bound, seen_range};
 
-// Whether all rules hold, or the number of the first that is broken.
-#[derive(Clone, Copy)]
-pub enum Judged {
-    Lawful,
-    Breaks(usize),
-}
-
 // How many neighbours there are among `n` in a row.
 fn gaps(n: usize) -> usize
     ensures { result ≡ n - 1 }
@@ -41,23 +34,23 @@ pub fn lawful(
     ids: &[u64],
     pool: &[u8],
     m: ManifestRow,
-) -> Judged
+) -> Result<(), usize>
     ensures { result ≡ judged_of lim (record { segments = segments.now; views = views.now; runs = runs.now; borrows = borrows.now; ids = ids.now; pool = pool.now }) m }
 {
     if !l1(lim, segments, views, runs, borrows, ids, pool, m) {
-        return Judged::Breaks(1);
+        return Err(1);
     }
     if !l2(segments, views, runs, borrows, ids, pool, m) {
-        return Judged::Breaks(2);
+        return Err(2);
     }
     if !l3(segments, views, runs, borrows, ids, pool, m) {
-        return Judged::Breaks(3);
+        return Err(3);
     }
     if !l4(segments, views, runs, borrows, ids, pool, m) {
-        return Judged::Breaks(4);
+        return Err(4);
     }
     if !l5(segments, views, runs, borrows, ids, pool, m) {
-        return Judged::Breaks(5);
+        return Err(5);
     }
-    Judged::Lawful
+    Ok(())
 }

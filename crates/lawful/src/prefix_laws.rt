@@ -42,14 +42,7 @@ fn ascends(segments: &[u64], pool: &[u8], w: Window) -> bool
     ensures { result ≡ all_below (λ k. less_of (prefix_at segments.now pool.now (w.first + k)) (prefix_at segments.now pool.now (w.first + (k + 1)))) (held_of w (length segments.now / 12) - 1) }
 {
     let n = gaps(held(w, segments.len() / 12));
-    let mut k = 0;
-    while k < n {
-        if !is_step(segments, pool, w.first + k, w.first + (k + 1)) {
-            return false;
-        }
-        k += 1;
-    }
-    true
+    (0..n).all(|k| is_step(segments, pool, w.first + k, w.first + (k + 1)))
 }
 
 // Whether no prefix of the window begins the next.
@@ -57,14 +50,7 @@ fn parts(segments: &[u64], pool: &[u8], w: Window) -> bool
     ensures { result ≡ all_below (λ k. not (begins_of (prefix_at segments.now pool.now (w.first + k)) (prefix_at segments.now pool.now (w.first + (k + 1))))) (held_of w (length segments.now / 12) - 1) }
 {
     let n = gaps(held(w, segments.len() / 12));
-    let mut k = 0;
-    while k < n {
-        if !is_apart(segments, pool, w.first + k, w.first + (k + 1)) {
-            return false;
-        }
-        k += 1;
-    }
-    true
+    (0..n).all(|k| is_apart(segments, pool, w.first + k, w.first + (k + 1)))
 }
 
 // L2: each prefix is below the next.

@@ -8,16 +8,16 @@ ghost use Rattle.lawful.specs.Law.{last_below, follows, run_lawful, l5_of};
 
 use crate::gaps;
 use keys::{is_less, part};
-use records::{Last, ManifestRow, Place, run_at, segment_at, view_at};
+use records::{ManifestRow, Place, run_at, segment_at, view_at};
 use tables::{Window, held};
 
 // Whether the last key, where it is known, is below `first`.
-fn is_below(pool: &[u8], last: Last, first: Place) -> bool
+fn is_below(pool: &[u8], last: Option<Place>, first: Place) -> bool
     ensures { result ≡ last_below (last_in pool.now last) (bytes_in pool.now first) }
 {
     match last {
-        Last::Unknown => true,
-        Last::Known(p) => is_less(part(pool, p.at, p.len), part(pool, first.at, first.len)),
+        None => true,
+        Some(p) => is_less(part(pool, p.at, p.len), part(pool, first.at, first.len)),
     }
 }
 
@@ -45,14 +45,7 @@ fn views_follow(views: &[u64], pool: &[u8], w: Window) -> bool
     ensures { result ≡ chain follows (views_in views.now pool.now w) }
 {
     let n = gaps(held(w, views.len() / 16));
-    let mut k = 0;
-    while k < n {
-        if !view_follows(views, pool, w.first + k, w.first + (k + 1)) {
-            return false;
-        }
-        k += 1;
-    }
-    true
+    (0..n).all(|k| view_follows(views, pool, w.first + k, w.first + (k + 1)))
 }
 
 // Whether the run of row `i` is lawful.
@@ -73,14 +66,7 @@ fn runs_follow(views: &[u64], runs: &[u64], pool: &[u8], w: Window) -> bool
     ensures { result ≡ all_of run_lawful (runs_in runs.now views.now pool.now w) }
 {
     let n = held(w, runs.len() / 3);
-    let mut k = 0;
-    while k < n {
-        if !run_follows(views, runs, pool, w.first + k) {
-            return false;
-        }
-        k += 1;
-    }
-    true
+    (0..n).all(|k| run_follows(views, runs, pool, w.first + k))
 }
 
 // Whether each run of the segment of row `i` is.
@@ -99,14 +85,7 @@ fn segments_follow(segments: &[u64], views: &[u64], runs: &[u64], pool: &[u8], w
     ensures { result ≡ all_of (λ s. all_of run_lawful (tree_runs s.tree)) (segments_in segments.now runs.now views.now pool.now w) }
 {
     let n = held(w, segments.len() / 12);
-    let mut k = 0;
-    while k < n {
-        if !segment_follows(segments, views, runs, pool, w.first + k) {
-            return false;
-        }
-        k += 1;
-    }
-    true
+    (0..n).all(|k| segment_follows(segments, views, runs, pool, w.first + k))
 }
 
 // L5: every run of every tree is lawful.

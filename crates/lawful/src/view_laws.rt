@@ -8,46 +8,46 @@ ghost use Rattle.lawful.specs.Law.{not_above, view_lawful, l4_of};
 ghost use Rattle.lawful.specs.Steps.{last_bound, seen_row, hidden_of};
 
 use keys::{Bound, Range, is_empty, is_less, meet, part};
-use records::{Last, ManifestRow, Place, TreeRow, Visible, run_at, segment_at, view_at};
+use records::{ManifestRow, Place, TreeRow, run_at, segment_at, view_at};
 use tables::{Window, held};
 
 // Whether the first key is not above the last, where that is known.
-fn is_ordered(pool: &[u8], first: Place, last: Last) -> bool
+fn is_ordered(pool: &[u8], first: Place, last: Option<Place>) -> bool
     ensures { result ≡ not_above (bytes_in pool.now first) (last_in pool.now last) }
 {
     match last {
-        Last::Unknown => true,
-        Last::Known(p) => !is_less(part(pool, p.at, p.len), part(pool, first.at, first.len)),
+        None => true,
+        Some(p) => !is_less(part(pool, p.at, p.len), part(pool, first.at, first.len)),
     }
 }
 
 // Where the physical range ends.
 // inner
-pub fn last_bound(last: Last) -> Bound
+pub fn last_bound(last: Option<Place>) -> Bound
     ensures { result ≡ last_bound last }
 {
     match last {
-        Last::Unknown => Bound::Unbounded,
-        Last::Known(p) => Bound::Included(p.at, p.len),
+        None => Bound::Unbounded,
+        Some(p) => Bound::Included(p.at, p.len),
     }
 }
 
 // The visible range, or all keys.
 // inner
-pub fn seen_range(visible: Visible) -> Range
+pub fn seen_range(visible: Option<Range>) -> Range
     ensures { result ≡ seen_row visible }
 {
     match visible {
-        Visible::All => Range {
+        None => Range {
             start: Bound::Unbounded,
             end: Bound::Unbounded,
         },
-        Visible::Only(r) => r,
+        Some(r) => r,
     }
 }
 
 // Whether the physical range meets the visible one in no key.
-fn is_hidden(pool: &[u8], first: Place, last: Last, visible: Visible) -> bool
+fn is_hidden(pool: &[u8], first: Place, last: Option<Place>, visible: Option<Range>) -> bool
     ensures { result ≡ hidden_of pool.now first last visible }
 {
     let start = Bound::Included(first.at, first.len);
@@ -76,14 +76,7 @@ fn views_hold(views: &[u64], pool: &[u8], w: Window) -> bool
     ensures { result ≡ all_of view_lawful (views_in views.now pool.now w) }
 {
     let n = held(w, views.len() / 16);
-    let mut k = 0;
-    while k < n {
-        if !view_holds(views, pool, w.first + k) {
-            return false;
-        }
-        k += 1;
-    }
-    true
+    (0..n).all(|k| view_holds(views, pool, w.first + k))
 }
 
 // Whether each view of the run of row `i` is.
@@ -101,14 +94,7 @@ fn runs_hold(views: &[u64], runs: &[u64], pool: &[u8], w: Window) -> bool
     ensures { result ≡ all_of (λ x. all_of view_lawful (run_views x)) (runs_in runs.now views.now pool.now w) }
 {
     let n = held(w, runs.len() / 3);
-    let mut k = 0;
-    while k < n {
-        if !run_holds(views, runs, pool, w.first + k) {
-            return false;
-        }
-        k += 1;
-    }
-    true
+    (0..n).all(|k| run_holds(views, runs, pool, w.first + k))
 }
 
 // Whether each view of the tree is: its L0, then run by run.
@@ -138,14 +124,7 @@ fn segments_hold(segments: &[u64], views: &[u64], runs: &[u64], pool: &[u8], w: 
     ensures { result ≡ all_of (λ s. all_of view_lawful (tree_views s.tree)) (segments_in segments.now runs.now views.now pool.now w) }
 {
     let n = held(w, segments.len() / 12);
-    let mut k = 0;
-    while k < n {
-        if !segment_holds(segments, views, runs, pool, w.first + k) {
-            return false;
-        }
-        k += 1;
-    }
-    true
+    (0..n).all(|k| segment_holds(segments, views, runs, pool, w.first + k))
 }
 
 // L4: every view of every tree is lawful by itself.

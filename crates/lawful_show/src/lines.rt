@@ -5,14 +5,7 @@ ghost use Rattle.std.specs.Prelude.{◌≤◌, length};
 pub fn find(s: &[u8], b: u8) -> usize
     ensures { result ≤ length s.now }
 {
-    let mut i = 0;
-    while i < s.len() {
-        if s[i] == b {
-            return i;
-        }
-        i += 1;
-    }
-    i
+    s.iter().position(|x| *x == b).unwrap_or(s.len())
 }
 
 // What stands before the first `b`.
@@ -46,19 +39,17 @@ fn digit(n: u64, b: u8) -> u64 {
 
 // The number between the k-th space of `s` and the next, 0 where there is none. Bytes that are no digits do not count.
 pub fn number(s: &[u8], k: usize) -> u64 {
-    let mut i = 0;
     let mut left = k;
     let mut n = 0;
-    while i < s.len() {
-        if s[i] == b' ' {
+    for b in s {
+        if *b == b' ' {
             if left == 0 {
                 return n;
             }
             left -= 1;
         } else if left == 0 {
-            n = digit(n, s[i]);
+            n = digit(n, *b);
         }
-        i += 1;
     }
     n
 }

@@ -10,10 +10,8 @@ mod lines;
 
 ghost use Rattle.std.specs.Prelude.{◌≤◌};
 
-use ids::{SstMark, ViewMark};
-use lawful::Judged;
 use lines::{after, before, find, number};
-use records::{ManifestRow, Name, Place, TreeRow, limits_01};
+use records::{ManifestRow, Place, TreeRow, limits_01};
 use std::io;
 use std::io::Read;
 use tables::{Window, ix};
@@ -69,15 +67,13 @@ fn next(column: usize, width: usize) -> usize {
 
 // Puts the numbers of `s` into the words from `from` on, before `past`: one to a word, and the same again for each row.
 fn set(t: &mut [u64], s: &[u8], width: usize, from: usize, past: usize) {
-    let mut i = from;
     let mut column = 1;
-    while i < past {
+    for i in from..past {
         if t.len() <= i {
             return;
         }
         t[i] = number(s, column);
         column = next(column, width);
-        i += 1;
     }
 }
 
@@ -106,12 +102,12 @@ fn window(s: &[u8], letter: u8) -> Window {
 }
 
 // The extractor's name: its place in the pool and its length, or none.
-fn name(s: &[u8]) -> Name {
+fn name(s: &[u8]) -> Option<Place> {
     if find(s, b'n') == s.len() {
-        return Name::Absent;
+        return None;
     }
     let w = window(s, b'n');
-    Name::Named(Place {
+    Some(Place {
         at: w.first,
         len: w.count,
     })
@@ -121,8 +117,8 @@ fn manifest(s: &[u8]) -> ManifestRow {
     ManifestRow {
         initialized: true,
         tree: TreeRow {
-            view: ViewMark::None,
-            sst: SstMark::None,
+            view: None,
+            sst: None,
             l0: window(s, b'v'),
             compacted: window(s, b'r'),
         },
@@ -140,10 +136,10 @@ fn manifest(s: &[u8]) -> ManifestRow {
 }
 
 // The number of the broken rule, 0 for none.
-fn rule(j: Judged) -> u64 {
+fn rule(j: Result<(), usize>) -> u64 {
     match j {
-        Judged::Lawful => 0,
-        Judged::Breaks(rule) => rule as u64,
+        Ok(()) => 0,
+        Err(rule) => rule as u64,
     }
 }
 
@@ -172,7 +168,7 @@ fn show(rt: &impl Print, t: &[u64], s: &[u8]) -> io::Result<()> {
 // ---- the lines
 
 fn line(rt: &impl Print, t: &mut [u64], s: &[u8]) -> io::Result<()> {
-    if s.len() == 0 {
+    if s.is_empty() {
         return Ok(());
     }
     if s[0] == b'c' {
@@ -184,11 +180,8 @@ fn line(rt: &impl Print, t: &mut [u64], s: &[u8]) -> io::Result<()> {
 }
 
 fn play(rt: &impl Print, t: &mut [u64], s: &[u8]) -> io::Result<()> {
-    let mut i = 0;
-    while i < s.len() {
-        let end = i + find(&s[i..], b'\n');
-        line(rt, t, &s[i..end])?;
-        i = end + 1;
+    for x in s.split(|b| *b == b'\n') {
+        line(rt, t, x)?;
     }
     Ok(())
 }

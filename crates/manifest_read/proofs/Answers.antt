@@ -1,4 +1,5 @@
 -- What the rows say is what the bytes say. Assumes nothing.
+use Rattle.std.specs.Prelude.{Err, Result}
 use Prim.Native.Nat.{ℕ}
 use mathlib.Core.Path.{◌≡◌, refl, ap}
 use mathlib.Core.Bool.{Bool, true, false, not}
@@ -19,8 +20,6 @@ use Rattle.measure.specs.Within.{within}
 use Rattle.measure.specs.Measure.{l1_of}
 use Rattle.measure.proofs.Fits.{under, fits_part}
 use Rattle.lawful.specs.Judge.{judged_of}
-use Rattle.lawful.specs.declared.Judged.{Judged}
-use Rattle.lawful.specs.declared.Judged.TheVariants.{Breaks}
 use Rattle.copy.specs.Copy.{Outcome, given_at, copy_at_of}
 use Rattle.copy.proofs.Answers.{given_front}
 use Rattle.manifest_values.specs.Read.{Got}
@@ -30,7 +29,7 @@ use Rattle.manifest_rows.proofs.Totals.{rows, manifest_rows}
 use Rattle.manifest_read.specs.Answer.{broken_of, refused, by_law, by_record, work_room, read_by, read_of, read_at_of}
 
 -- a manifest that breaks L1 is not given
-judged_first : (b : Bool) (rest : Judged) (given : Outcome) (o : Lent) → by_law (pick (not b) (Breaks 1) rest) (pick b given (refused (Unlawful 1) o)) o ≡ by_law (pick (not b) (Breaks 1) rest) given o
+judged_first : (b : Bool) (rest : Result Unit ℕ) (given : Outcome) (o : Lent) → by_law (pick {A = Result Unit ℕ} (not b) (Err 1) rest) (pick b given (refused (Unlawful 1) o)) o ≡ by_law (pick {A = Result Unit ℕ} (not b) (Err 1) rest) given o
 judged_first true rest given o = refl
 judged_first false rest given o = refl
 
@@ -47,7 +46,7 @@ pub record SameLong (l l' : Lent) : Type 0 where
 
 module _ (lim : Limits) (g : Got Manifest) (l l' o : Lent) (row : ManifestRow) (c : Fill) (p : ℕ) (x : ManifestIs g l l' row c p) where
   -- more rows than L1 allows
-  pub rows_break : fits c lim.fill ≡ false → broken_of lim x.value ≡ Breaks 1
+  pub rows_break : fits c lim.fill ≡ false → broken_of lim x.value ≡ Err 1
   unfolding broken_of within
   rows_break h =
       let m = x.value in

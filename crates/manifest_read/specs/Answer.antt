@@ -1,6 +1,6 @@
 -- What reading answers, for any bytes: which manifest they are, or which refusal with which place. Order: 2, then 4 for working
 -- tables that are too short for some manifest within L1 (nothing can be read without them), 18, 19, 1, and 4 for the output.
-use Rattle.std.specs.Prelude.{ℕ, ◌/◌, not, List, ltb, length}
+use Rattle.std.specs.Prelude.{ℕ, ◌/◌, not, List, ltb, length, Err, Ok, Result}
 use Rattle.keys.specs.Pick.{pick}
 use Rattle.records.specs.Model.{Manifest}
 use Rattle.records.specs.Fill.{fits}
@@ -11,26 +11,21 @@ use Rattle.records.specs.declared.Refusal.{Refusal}
 use Rattle.records.specs.declared.Refusal.TheVariants.{Unlawful, OverLimit, NoRoom, NotWellFormed, NotTheRecord}
 use Rattle.measure.specs.Within.{within}
 use Rattle.lawful.specs.Judge.{rules_of}
-use Rattle.lawful.specs.declared.Judged.{Judged}
-use Rattle.lawful.specs.declared.Judged.TheVariants.{Lawful, Breaks}
 use Rattle.copy.specs.Copy.{Outcome, given_of, given_at}
-use Rattle.copy.specs.declared.Copied.TheVariants.{Refused}
 use Rattle.msgpack.specs.Skip.{whole_of}
-use Rattle.msgpack.specs.declared.Whole.{Whole}
-use Rattle.msgpack.specs.declared.Whole.TheVariants.{Good, Bad}
 use Rattle.manifest_values.specs.Read.{Got, is, wrong, manifest_at}
 
 -- "a manifest breaks L1..L5", "first broken rule's number"
-unfoldable pub broken_of : Limits → Manifest → Judged
+unfoldable pub broken_of : Limits → Manifest → Result Unit ℕ
 broken_of lim m = rules_of (within lim m) m
 
 -- "A refused reading leaves the lent output as it was."
 abbrev pub refused : Refusal → Lent → Outcome
-refused r o = record { answer = Refused r; out = o }
+refused r o = record { answer = Err r; out = o }
 
-abbrev pub by_law : Judged → Outcome → Lent → Outcome
-by_law Lawful given o = given
-by_law (Breaks rule) given o = refused (Unlawful rule) o
+abbrev pub by_law : Result Unit ℕ → Outcome → Lent → Outcome
+by_law (Ok _) given o = given
+by_law (Err rule) given o = refused (Unlawful rule) o
 
 -- "well-formed, not the record", "start of the first wrong value"; `give` is what a lawful manifest comes to
 abbrev pub by_record : Limits → (Manifest → Outcome) → Lent → Got Manifest → Outcome
@@ -38,9 +33,9 @@ by_record lim give o (wrong q) = refused (NotTheRecord q) o
 by_record lim give o (is m p) = by_law (broken_of lim m) (give m) o
 
 -- "not well-formed MessagePack, bytes left over, nesting above 16", "start of the first innermost bad value .., or of what is left"
-abbrev pub by_whole : Limits → (Manifest → Outcome) → List ℕ → Lent → Whole → Outcome
-by_whole lim give s o (Bad q) = refused (NotWellFormed q) o
-by_whole lim give s o Good = by_record lim give o (manifest_at s 0)
+abbrev pub by_whole : Limits → (Manifest → Outcome) → List ℕ → Lent → Result Unit ℕ → Outcome
+by_whole lim give s o (Err q) = refused (NotWellFormed q) o
+by_whole lim give s o (Ok _) = by_record lim give o (manifest_at s 0)
 
 -- the places of lent working tables; their pool is the input, which holds every byte that it names
 abbrev pub work_room : Limits → Lent → Fill

@@ -8,11 +8,10 @@ ghost use Rattle.lawful.specs.Judge.{judged_of};
 ghost use Rattle.manifest_values.specs.Read.{manifest_at};
 ghost use Rattle.manifest_read.specs.Answer.{by_law, by_record, work_room, read_of, read_at_of};
 
-use copy::{Copied, copy_at};
-use lawful::{Judged, lawful};
-use manifest_rows::{GotManifest, fill_manifest};
+use copy::copy_at;
+use lawful::lawful;
+use manifest_rows::fill_manifest;
 use measure::fits_in;
-use msgpack::Whole;
 use records::{Fill, Limits, ManifestRow, Refusal};
 
 // Judges rows, then copies what is lawful behind what fills `c`.
@@ -32,30 +31,28 @@ fn judged_copy(
     out_ids: &mut [u64],
     out_pool: &mut [u8],
     c: Fill,
-) -> Copied
+) -> Result<ManifestRow, Refusal>
     requires { fits c (room_of (record { segments = out_segments.old; views = out_views.old; runs = out_runs.old; borrows = out_borrows.old; ids = out_ids.old; pool = out_pool.old })) ≡ true }
     ensures { record { answer = result; out = record { segments = out_segments.new; views = out_views.new; runs = out_runs.new; borrows = out_borrows.new; ids = out_ids.new; pool = out_pool.new } } ≡ by_law (judged_of lim (record { segments = segments.now; views = views.now; runs = runs.now; borrows = borrows.now; ids = ids.now; pool = pool.now }) m) (copy_at_of lim c (record { segments = segments.now; views = views.now; runs = runs.now; borrows = borrows.now; ids = ids.now; pool = pool.now }) m (record { segments = out_segments.old; views = out_views.old; runs = out_runs.old; borrows = out_borrows.old; ids = out_ids.old; pool = out_pool.old })) (record { segments = out_segments.old; views = out_views.old; runs = out_runs.old; borrows = out_borrows.old; ids = out_ids.old; pool = out_pool.old }) }
 {
-    match lawful(lim, segments, views, runs, borrows, ids, pool, m) {
-        Judged::Breaks(rule) => Copied::Refused(Refusal::Unlawful(rule)),
-        Judged::Lawful => copy_at(
-            lim,
-            segments,
-            views,
-            runs,
-            borrows,
-            ids,
-            pool,
-            m,
-            out_segments,
-            out_views,
-            out_runs,
-            out_borrows,
-            out_ids,
-            out_pool,
-            c,
-        ),
-    }
+    lawful(lim, segments, views, runs, borrows, ids, pool, m).map_err(Refusal::Unlawful)?;
+    copy_at(
+        lim,
+        segments,
+        views,
+        runs,
+        borrows,
+        ids,
+        pool,
+        m,
+        out_segments,
+        out_views,
+        out_runs,
+        out_borrows,
+        out_ids,
+        out_pool,
+        c,
+    )
 }
 
 // Reads the rows and judges them. The working tables have room for any manifest within L1.
@@ -74,37 +71,33 @@ fn read_rows(
     out_ids: &mut [u64],
     out_pool: &mut [u8],
     c: Fill,
-) -> Copied
+) -> Result<ManifestRow, Refusal>
     requires out_pool_value { fits c (room_of (record { segments = out_segments.old; views = out_views.old; runs = out_runs.old; borrows = out_borrows.old; ids = out_ids.old; pool = out_pool.old })) ≡ true }
     requires s_value { fits lim.fill (work_room lim (record { segments = segments.old; views = views.old; runs = runs.old; borrows = borrows.old; ids = ids.old; pool = s.now })) ≡ true }
     ensures { record { answer = result; out = record { segments = out_segments.new; views = out_views.new; runs = out_runs.new; borrows = out_borrows.new; ids = out_ids.new; pool = out_pool.new } } ≡ by_record lim (λ m. given_at lim c m (record { segments = out_segments.old; views = out_views.old; runs = out_runs.old; borrows = out_borrows.old; ids = out_ids.old; pool = out_pool.old })) (record { segments = out_segments.old; views = out_views.old; runs = out_runs.old; borrows = out_borrows.old; ids = out_ids.old; pool = out_pool.old }) (manifest_at s.now 0) }
 {
-    match fill_manifest(s, segments, views, runs, borrows, ids) {
-        GotManifest::Is(row, f, _) => {
-            let most = lim.fill;
-            if fits_in(f, most) {
-                return judged_copy(
-                    lim,
-                    segments,
-                    views,
-                    runs,
-                    borrows,
-                    ids,
-                    s,
-                    row,
-                    out_segments,
-                    out_views,
-                    out_runs,
-                    out_borrows,
-                    out_ids,
-                    out_pool,
-                    c,
-                );
-            }
-            Copied::Refused(Refusal::Unlawful(1))
-        }
-        GotManifest::Wrong(w) => Copied::Refused(Refusal::NotTheRecord(w)),
+    let filled = fill_manifest(s, segments, views, runs, borrows, ids);
+    let (row, f, _) = filled.map_err(Refusal::NotTheRecord)?;
+    if !fits_in(f, lim.fill) {
+        return Err(Refusal::Unlawful(1));
     }
+    judged_copy(
+        lim,
+        segments,
+        views,
+        runs,
+        borrows,
+        ids,
+        s,
+        row,
+        out_segments,
+        out_views,
+        out_runs,
+        out_borrows,
+        out_ids,
+        out_pool,
+        c,
+    )
 }
 
 // How many bytes an encoded manifest may have.
@@ -112,6 +105,7 @@ pub const LONGEST: usize = 0x1_0000;
 
 // Reads a manifest behind what fills `c`: the lent output may hold others before it.
 // inner
+#[tactic(auto, unfolding(crate::specs::Answer::read_at_of))]
 pub fn read_at(
     lim: Limits,
     s: &[u8],
@@ -127,45 +121,41 @@ pub fn read_at(
     out_ids: &mut [u64],
     out_pool: &mut [u8],
     c: Fill,
-) -> Copied
+) -> Result<ManifestRow, Refusal>
     requires { fits c (room_of (record { segments = out_segments.old; views = out_views.old; runs = out_runs.old; borrows = out_borrows.old; ids = out_ids.old; pool = out_pool.old })) ≡ true }
     ensures { record { answer = result; out = record { segments = out_segments.new; views = out_views.new; runs = out_runs.new; borrows = out_borrows.new; ids = out_ids.new; pool = out_pool.new } } ≡ read_at_of lim s.now (record { segments = segments.old; views = views.old; runs = runs.old; borrows = borrows.old; ids = ids.old; pool = s.now }) (record { segments = out_segments.old; views = out_views.old; runs = out_runs.old; borrows = out_borrows.old; ids = out_ids.old; pool = out_pool.old }) c }
 {
     if LONGEST < s.len() {
-        return Copied::Refused(Refusal::OverLimit);
+        return Err(Refusal::OverLimit);
     }
-    let most = lim.fill;
     let room = Fill {
         segments: segments.len() / 12,
         views: views.len() / 16,
         runs: runs.len() / 3,
         borrows: borrows.len() / 9,
         ids: ids.len() / 2,
-        bytes: most.bytes,
+        bytes: lim.fill.bytes,
     };
-    if fits_in(most, room) {
-        match msgpack::well_formed(s) {
-            Whole::Good => read_rows(
-                lim,
-                s,
-                segments,
-                views,
-                runs,
-                borrows,
-                ids,
-                out_segments,
-                out_views,
-                out_runs,
-                out_borrows,
-                out_ids,
-                out_pool,
-                c,
-            ),
-            Whole::Bad(w) => Copied::Refused(Refusal::NotWellFormed(w)),
-        }
-    } else {
-        Copied::Refused(Refusal::NoRoom)
+    if !fits_in(lim.fill, room) {
+        return Err(Refusal::NoRoom);
     }
+    msgpack::well_formed(s).map_err(Refusal::NotWellFormed)?;
+    read_rows(
+        lim,
+        s,
+        segments,
+        views,
+        runs,
+        borrows,
+        ids,
+        out_segments,
+        out_views,
+        out_runs,
+        out_borrows,
+        out_ids,
+        out_pool,
+        c,
+    )
 }
 
 // Reads a manifest: its canonical tables in the lent output, or why there are none, with the output as it was. The five
@@ -184,7 +174,7 @@ pub fn read(
     out_borrows: &mut [u64],
     out_ids: &mut [u64],
     out_pool: &mut [u8],
-) -> Copied
+) -> Result<ManifestRow, Refusal>
     ensures { record { answer = result; out = record { segments = out_segments.new; views = out_views.new; runs = out_runs.new; borrows = out_borrows.new; ids = out_ids.new; pool = out_pool.new } } ≡ read_of lim s.now (record { segments = segments.old; views = views.old; runs = runs.old; borrows = borrows.old; ids = ids.old; pool = s.now }) (record { segments = out_segments.old; views = out_views.old; runs = out_runs.old; borrows = out_borrows.old; ids = out_ids.old; pool = out_pool.old }) }
 {
     let none = Fill {

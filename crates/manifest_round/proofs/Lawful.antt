@@ -1,4 +1,5 @@
 -- What a lawful manifest fills is small, so everything that it holds can be written and read back. Assumes nothing.
+use Rattle.std.specs.Prelude.{Err, Ok, Result}
 use Prim.Native.Nat.{ℕ, ◌+◌, ◌^◌, ◌≤◌, ◌<◌}
 use mathlib.Core.Path.{◌≡◌, refl}
 use mathlib.Core.Bool.{Bool, true, false, not, ◌&&◌}
@@ -17,8 +18,6 @@ use Rattle.keys.proofs.Says.{says_true}
 use Rattle.records.specs.Decode.{Lent}
 use Rattle.measure.specs.Within.{within}
 use Rattle.measure.proofs.Fits.{says_fits}
-use Rattle.lawful.specs.declared.Judged.{Judged}
-use Rattle.lawful.specs.declared.Judged.TheVariants.{Lawful, Breaks}
 use Rattle.copy.specs.Copy.{given_of}
 use Rattle.manifest_write.specs.Bytes.{manifest_bytes}
 use Rattle.manifest_write.proofs.Bounds.{fitting_most}
@@ -178,11 +177,11 @@ and_left : (a b : Bool) → (a && b) ≡ true → a ≡ true
 and_left true b e = refl
 and_left false b e = e
 
-kept_first : (b : Bool) (rest : Judged) → pick (not b) (Breaks 1) rest ≡ Lawful → b ≡ true
+kept_first : (b : Bool) (rest : Result Unit ℕ) → pick {A = Result Unit ℕ} (not b) (Err 1) rest ≡ Ok tt → b ≡ true
 kept_first true rest e = refl
 kept_first false rest e = let z : ◌≡◌ {A = ℕ} 0 1 = cc in absurd (omega arith)
 
-module _ (m : Manifest) (lawful : broken_of limits01 m ≡ Lawful) where
+module _ (m : Manifest) (lawful : broken_of limits01 m ≡ Ok tt) where
   lawful_within : within limits01 m ≡ true
   unfolding broken_of
   lawful_within = kept_first (within limits01 m) _ lawful

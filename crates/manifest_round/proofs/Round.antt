@@ -1,4 +1,5 @@
 -- THE ROUND TRIP: reading what was written gives the same manifest. Assumes nothing.
+use Rattle.std.specs.Prelude.{None, Option, Some}
 use Prim.Native.Nat.{ℕ, ◌+◌, ◌-◌, ◌^◌, ◌≤◌}
 use mathlib.Core.Path.{◌≡◌, sym, ap, ◌∙◌}
 use mathlib.Core.List.{List, [], ◌∷◌, ◌++◌, map, append_assoc, append-nil}
@@ -9,12 +10,6 @@ use lib.ListN.{length, drop, length-append, length-map}
 use Rattle.keys.specs.Range.{Edge, unbounded, included, excluded}
 use Rattle.ids.specs.Id.{id_bytes}
 use Rattle.ids.specs.declared.SstId.{SstId}
-use Rattle.ids.specs.declared.ViewMark.{ViewMark}
-use Rattle.ids.specs.declared.ViewMark.TheVariants as view_marks
-use Rattle.ids.specs.declared.SstMark.{SstMark}
-use Rattle.ids.specs.declared.SstMark.TheVariants as sst_marks
-use Rattle.ids.specs.declared.Final.{Final}
-use Rattle.ids.specs.declared.Final.TheVariants as final
 use Rattle.records.specs.Model.{LastKey, unknown, known, Seen, all, only, View, Run, Tree, Segment, Borrow, Extractor, none, named, Manifest}
 use Rattle.msgpack_put.specs.Write.{uint_bytes, int_bytes, flag_bytes, array_bytes, bin_bytes, id_part, concat, group_bytes}
 use Rattle.msgpack_put.proofs.Back.{on, uint_back, int_back, flag_back, group_back, bin_back, bytes_back, nil_back, bin_present, array_present, id_back, rest_back}
@@ -22,6 +17,8 @@ use Rattle.msgpack_put.proofs.Puts.{id_length}
 use Rattle.manifest_write.specs.Bytes.{list_bytes, view_mark_bytes, sst_mark_bytes, final_bytes, sst_id_bytes, edge_bytes, seen_bytes, last_bytes, view_bytes, run_bytes, tree_bytes, segment_bytes, segments_bytes, borrow_bytes, name_bytes, manifest_bytes}
 use Rattle.manifest_values.specs.Read.{Got, is, many, list_of, most, edge_by, key_at, sst_id_at, view_mark_at, sst_mark_at, final_at, edge_at, seen_at, last_at, view_at, run_at, tree_at, segment_at, borrow_at, name_at, trees_at, borrows_at, numbers_at, epochs_at, manifest_at}
 use Rattle.manifest_round.specs.Fits.{Short, ViewMarkFits, SstMarkFits, FinalFits, EdgeFits, SeenFits, LastFits, NameFits, AllFit, ListFits, ViewFits, RunFits, TreeFits, SegmentFits, IdFits, BorrowFits, ManifestFits}
+use Rattle.ids.specs.declared.ViewId.{ViewId}
+use Rattle.ids.specs.declared.Uuid.{Uuid}
 
 -- wherever x was written, x is read there
 abbrev pub Back : {A : Type 0} → (List ℕ → ℕ → Got A) → (A → List ℕ) → A → Type 0
@@ -48,19 +45,19 @@ sst_id_back x h s at post e = rw (id_back s at post x.0 x.1 h.0 h.1 e)
 some_id : (s : List ℕ) (at : ℕ) (post : List ℕ) (hi lo : ℕ) → drop at s ≡ id_part hi lo ++ post → Short (length (id_bytes hi lo))
 some_id s at post hi lo e = omega (arith, id_length hi lo)
 
-view_mark_back : (m : ViewMark) → ViewMarkFits m → Back view_mark_at view_mark_bytes m
-view_mark_back view_marks.None h s at post e = rw (nil_back s at post e)
-view_mark_back (view_marks.Some x) h s at post e =
+view_mark_back : (m : Option ViewId) → ViewMarkFits m → Back view_mark_at view_mark_bytes m
+view_mark_back None h s at post e = rw (nil_back s at post e)
+view_mark_back (Some x) h s at post e =
     rw (bin_present s at post (id_bytes x.0 x.1) (some_id s at post x.0 x.1 e) e, id_back s at post x.0 x.1 h.0 h.1 e)
 
-sst_mark_back : (m : SstMark) → SstMarkFits m → Back sst_mark_at sst_mark_bytes m
-sst_mark_back sst_marks.None h s at post e = rw (nil_back s at post e)
-sst_mark_back (sst_marks.Some x) h s at post e =
+sst_mark_back : (m : Option SstId) → SstMarkFits m → Back sst_mark_at sst_mark_bytes m
+sst_mark_back None h s at post e = rw (nil_back s at post e)
+sst_mark_back (Some x) h s at post e =
     rw (bin_present s at post (id_bytes x.0 x.1) (some_id s at post x.0 x.1 e) e, id_back s at post x.0 x.1 h.0 h.1 e)
 
-final_back : (f : Final) → FinalFits f → Back final_at final_bytes f
-final_back final.None h s at post e = rw (nil_back s at post e)
-final_back (final.Some x) h s at post e =
+final_back : (f : Option Uuid) → FinalFits f → Back final_at final_bytes f
+final_back None h s at post e = rw (nil_back s at post e)
+final_back (Some x) h s at post e =
     rw (bin_present s at post (id_bytes x.0 x.1) (some_id s at post x.0 x.1 e) e, id_back s at post x.0 x.1 h.0 h.1 e)
 
 -- ---- lists

@@ -1,4 +1,5 @@
 -- What is written of a manifest is well-formed by the public specification, and no deeper than 16. Assumes nothing.
+use Rattle.std.specs.Prelude.{None, Ok, Option, Some}
 use Prim.Native.Nat.{ℕ, suc}
 use mathlib.Core.Path.{◌≡◌}
 use mathlib.Core.List.{List, [], ◌∷◌, map}
@@ -6,31 +7,27 @@ use lib.Dec.{lit<}
 use lib.ListN.{length-map}
 use native.Mathlib.Omega.{arith}
 use Rattle.keys.specs.Range.{Edge, unbounded, included, excluded}
-use Rattle.ids.specs.declared.ViewMark.{ViewMark}
-use Rattle.ids.specs.declared.ViewMark.TheVariants as view_marks
-use Rattle.ids.specs.declared.SstMark.{SstMark}
-use Rattle.ids.specs.declared.SstMark.TheVariants as sst_marks
-use Rattle.ids.specs.declared.Final.{Final}
-use Rattle.ids.specs.declared.Final.TheVariants as final
 use Rattle.records.specs.Model.{LastKey, unknown, known, Seen, all, only, View, Run, Tree, Segment, Borrow, Extractor, none, named, Manifest}
 use Rattle.msgpack.specs.Skip.{whole_of}
-use Rattle.msgpack.specs.declared.Whole.TheVariants as whole
 use Rattle.msgpack_put.specs.Write.{uint_bytes, int_bytes, flag_bytes, bin_bytes, id_part}
 use Rattle.msgpack_put.proofs.Well.{Well, Wells, well_uint, well_int, well_flag, well_nil, well_bin, well_id, well_group, well_whole}
 use Rattle.manifest_write.specs.Bytes.{list_bytes, view_mark_bytes, sst_mark_bytes, final_bytes, sst_id_bytes, edge_bytes, seen_bytes, last_bytes, view_bytes, run_bytes, tree_bytes, segment_bytes, segments_bytes, borrow_bytes, name_bytes, manifest_bytes}
 use Rattle.manifest_round.specs.Fits.{EdgeFits, SeenFits, LastFits, NameFits, AllFit, ListFits, ViewFits, RunFits, TreeFits, SegmentFits, IdFits, BorrowFits, ManifestFits}
+use Rattle.ids.specs.declared.ViewId.{ViewId}
+use Rattle.ids.specs.declared.SstId.{SstId}
+use Rattle.ids.specs.declared.Uuid.{Uuid}
 
-well_view_mark : (r : ℕ) (m : ViewMark) → Well r (view_mark_bytes m)
-well_view_mark r view_marks.None = well_nil r
-well_view_mark r (view_marks.Some x) = well_id r x.0 x.1
+well_view_mark : (r : ℕ) (m : Option ViewId) → Well r (view_mark_bytes m)
+well_view_mark r None = well_nil r
+well_view_mark r (Some x) = well_id r x.0 x.1
 
-well_sst_mark : (r : ℕ) (m : SstMark) → Well r (sst_mark_bytes m)
-well_sst_mark r sst_marks.None = well_nil r
-well_sst_mark r (sst_marks.Some x) = well_id r x.0 x.1
+well_sst_mark : (r : ℕ) (m : Option SstId) → Well r (sst_mark_bytes m)
+well_sst_mark r None = well_nil r
+well_sst_mark r (Some x) = well_id r x.0 x.1
 
-well_final : (r : ℕ) (f : Final) → Well r (final_bytes f)
-well_final r final.None = well_nil r
-well_final r (final.Some x) = well_id r x.0 x.1
+well_final : (r : ℕ) (f : Option Uuid) → Well r (final_bytes f)
+well_final r None = well_nil r
+well_final r (Some x) = well_id r x.0 x.1
 
 well_last : (r : ℕ) (l : LastKey) → LastFits l → Well r (last_bytes l)
 well_last r unknown h = well_nil r
@@ -90,7 +87,7 @@ well_borrow r b f =
     (well_bin q b.path f.path, (well_id q b.source.0 b.source.1, (well_final q b.final, (well_list r sst_id_bytes IdFits (λ x h. well_id r x.0 x.1) b.ids f.ids, tt))))
 
 -- What is written is one well-formed value, and nothing is left over.
-pub well_manifest : (m : Manifest) → ManifestFits m → whole_of (manifest_bytes m) ≡ whole.Good
+pub well_manifest : (m : Manifest) → ManifestFits m → whole_of (manifest_bytes m) ≡ Ok tt
 unfolding manifest_bytes segments_bytes
 well_manifest m f =
     well_whole (manifest_bytes m)

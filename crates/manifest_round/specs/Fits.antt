@@ -1,16 +1,12 @@
 -- A manifest whose numbers fit their fields: what MessagePack can hold of it.
-use Rattle.std.specs.Prelude.{ℕ, ◌^◌, ◌<◌, List, [], ◌∷◌, length}
+use Rattle.std.specs.Prelude.{ℕ, ◌^◌, ◌<◌, List, [], ◌∷◌, length, None, Option, Some}
 use Rattle.std.specs.Int.{w64}
 use Rattle.std.proofs.Common.{SFits}
 use Rattle.keys.specs.Range.{Edge, unbounded, included, excluded}
-use Rattle.ids.specs.declared.ViewMark.{ViewMark}
-use Rattle.ids.specs.declared.ViewMark.TheVariants as view_marks
-use Rattle.ids.specs.declared.SstMark.{SstMark}
-use Rattle.ids.specs.declared.SstMark.TheVariants as sst_marks
 use Rattle.ids.specs.declared.SstId.{SstId}
-use Rattle.ids.specs.declared.Final.{Final}
-use Rattle.ids.specs.declared.Final.TheVariants as final
 use Rattle.records.specs.Model.{LastKey, unknown, known, Seen, all, only, View, Run, Tree, Segment, Borrow, Extractor, none, named, Manifest}
+use Rattle.ids.specs.declared.ViewId.{ViewId}
+use Rattle.ids.specs.declared.Uuid.{Uuid}
 
 -- a number of 64 bits
 abbrev pub Word : ℕ → Type 0
@@ -20,17 +16,17 @@ Word x = x < 2 ^ 64
 abbrev pub Halves : ℕ → ℕ → Type 0
 Halves hi lo = Word hi × Word lo
 
-abbrev pub ViewMarkFits : ViewMark → Type 0
-ViewMarkFits view_marks.None = Unit {0}
-ViewMarkFits (view_marks.Some x) = Halves x.0 x.1
+abbrev pub ViewMarkFits : Option ViewId → Type 0
+ViewMarkFits None = Unit {0}
+ViewMarkFits (Some x) = Halves x.0 x.1
 
-abbrev pub SstMarkFits : SstMark → Type 0
-SstMarkFits sst_marks.None = Unit {0}
-SstMarkFits (sst_marks.Some x) = Halves x.0 x.1
+abbrev pub SstMarkFits : Option SstId → Type 0
+SstMarkFits None = Unit {0}
+SstMarkFits (Some x) = Halves x.0 x.1
 
-abbrev pub FinalFits : Final → Type 0
-FinalFits final.None = Unit {0}
-FinalFits (final.Some x) = Halves x.0 x.1
+abbrev pub FinalFits : Option Uuid → Type 0
+FinalFits None = Unit {0}
+FinalFits (Some x) = Halves x.0 x.1
 
 -- the longest bin, and the longest array
 abbrev pub Short : ℕ → Type 0

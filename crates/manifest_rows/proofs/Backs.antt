@@ -1,4 +1,5 @@
 -- The rows that were filled in read back as what was read, and each lies within its tables. Assumes nothing.
+use Rattle.std.specs.Prelude.{None, Option, Some}
 use Prim.Native.Nat.{ℕ, suc, ◌+◌, ◌*◌, ◌/◌, ◌^◌, ◌≤◌, ◌<◌}
 use mathlib.Core.Path.{◌≡◌, refl, sym, ◌∙◌}
 use mathlib.Core.Bool.{Bool, true, ◌&&◌}
@@ -17,30 +18,22 @@ use Rattle.records.specs.Model.{View, Run, Tree, Segment, Borrow, Manifest}
 use Rattle.records.specs.Row.{at, view_at, run_at, segment_at, borrow_at, id_at}
 use Rattle.records.specs.Words.{bound_cell, last_cell, view_mark_cell, sst_mark_cell, final_cell, visible_cells, view_words, run_words, tree_words, segment_words, borrow_words, id_words}
 use Rattle.records.specs.Decode.{Lent, view_in, views_in, run_in, runs_in, tree_in, segment_in, segments_in, ids_in, borrow_in, borrows_in, manifest_in}
-use Rattle.records.specs.declared.Last.{Last}
-use Rattle.records.specs.declared.Last.TheVariants.{Unknown, Known}
-use Rattle.records.specs.declared.Visible.{Visible}
-use Rattle.records.specs.declared.Visible.TheVariants.{All, Only}
 use Rattle.records.specs.declared.ViewRow.{ViewRow}
 use Rattle.records.specs.declared.TreeRow.{TreeRow}
 use Rattle.records.specs.declared.SegmentRow.{SegmentRow}
 use Rattle.records.specs.declared.ManifestRow.{ManifestRow}
 use Rattle.records.specs.declared.Fill.{Fill}
-use Rattle.records.specs.declared.Name.{Name}
-use Rattle.records.specs.declared.Name.TheVariants.{Absent, Named}
 use Rattle.ids.specs.declared.SstId.{SstId}
-use Rattle.ids.specs.declared.ViewMark.{ViewMark}
-use Rattle.ids.specs.declared.ViewMark.TheVariants as view_marks
-use Rattle.ids.specs.declared.SstMark.{SstMark}
-use Rattle.ids.specs.declared.SstMark.TheVariants as sst_marks
-use Rattle.ids.specs.declared.Final.{Final}
-use Rattle.ids.specs.declared.Final.TheVariants as final
 use Rattle.records.proofs.Rows.{view_at_back, run_at_back, segment_at_back, borrow_at_back, id_at_back}
 use Rattle.measure.specs.Tests.{all_below}
 use Rattle.measure.specs.Placed.{key_in, opened, bounded, view_placed, views_placed, run_placed, runs_placed, tree_placed, segment_placed, segments_placed, borrow_placed, borrows_placed, name_placed, placed}
 use Rattle.manifest_rows.specs.Stored.{Stands, Kept, Steps, none, more, Table, ViewOver, LastIn, VisibleIn, BoundIn, ViewStep, Two, RunStep, run_row, TreeStep, IdStep, BorrowStep, borrow_row, Three, SegmentStep, NameIn, ManifestStep}
 use Rattle.manifest_rows.proofs.Kept.{kept_trans, kept_less, kept_stands, stands_holds}
 use Rattle.manifest_rows.proofs.Turns.{steps_next}
+use Rattle.records.specs.declared.Place.{Place}
+use Rattle.keys.specs.declared.Range.{Range}
+use Rattle.ids.specs.declared.ViewId.{ViewId}
+use Rattle.ids.specs.declared.Uuid.{Uuid}
 
 -- ---- the last tables keep what stood in them at σ, and have room for it
 
@@ -96,13 +89,13 @@ module _ (n : ℕ) where
   bound_placed_lem (Included from len) h = le-leb (from + len) n h
   bound_placed_lem (Excluded from len) h = le-leb (from + len) n h
 
-  last_placed_lem : (l : Last) → LastIn n l → opened (last_cell l).code (key_in n (record { at = (last_cell l).a; len = (last_cell l).b })) ≡ true
-  last_placed_lem Unknown h = refl
-  last_placed_lem (Known p) h = le-leb (p.at + p.len) n h
+  last_placed_lem : (l : Option Place) → LastIn n l → opened (last_cell l).code (key_in n (record { at = (last_cell l).a; len = (last_cell l).b })) ≡ true
+  last_placed_lem None h = refl
+  last_placed_lem (Some p) h = le-leb (p.at + p.len) n h
 
-  visible_placed_lem : (v : Visible) → VisibleIn n v → opened (visible_cells v).code (bounded (visible_cells v).start.code (key_in n (record { at = (visible_cells v).start.a; len = (visible_cells v).start.b })) && bounded (visible_cells v).end.code (key_in n (record { at = (visible_cells v).end.a; len = (visible_cells v).end.b }))) ≡ true
-  visible_placed_lem All h = refl
-  visible_placed_lem (Only r) h = both_true _ _ (bound_placed_lem r.start h.0) (bound_placed_lem r.end h.1)
+  visible_placed_lem : (v : Option Range) → VisibleIn n v → opened (visible_cells v).code (bounded (visible_cells v).start.code (key_in n (record { at = (visible_cells v).start.a; len = (visible_cells v).start.b })) && bounded (visible_cells v).end.code (key_in n (record { at = (visible_cells v).end.a; len = (visible_cells v).end.b }))) ≡ true
+  visible_placed_lem None h = refl
+  visible_placed_lem (Some r) h = both_true _ _ (bound_placed_lem r.start h.0) (bound_placed_lem r.end h.1)
 
 module _ (s t : List ℕ) where
   view_placed_lem : (i : ℕ) (row : ViewRow) (v : View) → ViewOver s row v → Holds t (i * 16) (view_words row) → view_placed (length s) t i ≡ true
@@ -180,17 +173,17 @@ module _ (ids : List ℕ) where
       (r.0, rw (held σ.next (length xs) (length ids / 2) l) r.1, le-leb (σ.next + length xs) (length ids / 2) l)
 
 -- a cell's code is 0 or 1
-final_opens : (f : Final) → opened (final_cell f).code true ≡ true
-final_opens final.None = refl
-final_opens (final.Some x) = refl
+final_opens : (f : Option Uuid) → opened (final_cell f).code true ≡ true
+final_opens None = refl
+final_opens (Some x) = refl
 
-view_mark_opens : (m : ViewMark) → opened (view_mark_cell m).code true ≡ true
-view_mark_opens view_marks.None = refl
-view_mark_opens (view_marks.Some x) = refl
+view_mark_opens : (m : Option ViewId) → opened (view_mark_cell m).code true ≡ true
+view_mark_opens None = refl
+view_mark_opens (Some x) = refl
 
-sst_mark_opens : (m : SstMark) → opened (sst_mark_cell m).code true ≡ true
-sst_mark_opens sst_marks.None = refl
-sst_mark_opens (sst_marks.Some x) = refl
+sst_mark_opens : (m : Option SstId) → opened (sst_mark_cell m).code true ≡ true
+sst_mark_opens None = refl
+sst_mark_opens (Some x) = refl
 
 module _ (s borrows ids : List ℕ) where
   borrow_back : (b : Borrow) (σ σ' : Two) → BorrowStep s b σ σ' → KeepTwo 9 2 borrows ids σ'
@@ -249,9 +242,9 @@ module _ (s segments runs views : List ℕ) where
 
 -- ---- the manifest
 
-name_placed_lem : (n : ℕ) (x : Name) → NameIn n x → name_placed n x ≡ true
-name_placed_lem n Absent h = refl
-name_placed_lem n (Named p) h = le-leb (p.at + p.len) n h
+name_placed_lem : (n : ℕ) (x : Option Place) → NameIn n x → name_placed n x ≡ true
+name_placed_lem n None h = refl
+name_placed_lem n (Some p) h = le-leb (p.at + p.len) n h
 
 -- the counts fit the tables
 pub record Fitting (c : Fill) (l : Lent) : Type 0 where

@@ -1,6 +1,7 @@
 -- A record that is read in parts: what its first part leaves. Assumes nothing.
+use Rattle.std.specs.Prelude.{Err, Ok, Result}
 use Prim.Native.Nat.{ℕ, ◌-◌, ◌^◌, ◌<◌}
-use mathlib.Core.Path.{◌≡◌, refl, sym, ap, ◌∙◌}
+use mathlib.Core.Path.{◌≡◌, refl, sym, ◌∙◌}
 use mathlib.Core.Bool.{Bool}
 use mathlib.Core.List.{List}
 use native.Mathlib.Omega.{arith}
@@ -10,30 +11,15 @@ use Rattle.records.specs.Decode.{bytes_in}
 use Rattle.records.specs.declared.Place.{Place}
 use Rattle.msgpack.specs.Skip.{rest_at}
 use Rattle.msgpack.specs.Read.{uint_at, flag_at, id_at, group_at, list_at, on_uint, on_flag, on_id, on_group, on_skipped}
-use Rattle.msgpack.specs.declared.Skipped.{Skipped}
-use Rattle.msgpack.specs.declared.Skipped.TheVariants.{Past, Bad}
-use Rattle.msgpack.specs.declared.Uint.{Uint}
-use Rattle.msgpack.specs.declared.Uint.TheVariants as uint
-use Rattle.msgpack.specs.declared.Flag.{Flag}
-use Rattle.msgpack.specs.declared.Flag.TheVariants as flag
-use Rattle.msgpack.specs.declared.Id.{Id}
-use Rattle.msgpack.specs.declared.Id.TheVariants as id
-use Rattle.msgpack.specs.declared.Group.{Group}
-use Rattle.msgpack.specs.declared.Group.TheVariants as group
 use Rattle.msgpack.proofs.Told.{group_within, uint_within}
 use Rattle.manifest_values.specs.Read.{Got, is, wrong, on, ended, many, key_at, sst_id_at, view_at, run_at, tree_at, borrow_at, view_mark_at, sst_mark_at, final_at, trees_at, name_at, numbers_at, borrows_at, epochs_at, manifest_at, list_of}
 use Rattle.manifest_values.specs.Rows as rows
+use Rattle.manifest_values.specs.Rows.{got}
 use Rattle.manifest_rows.specs.declared.RunHead.{RunHead}
-use Rattle.manifest_rows.specs.declared.GotRunHead.{GotRunHead}
-use Rattle.manifest_rows.specs.declared.GotRunHead.TheVariants as run_head
 use Rattle.manifest_rows.specs.declared.BorrowHead.{BorrowHead}
-use Rattle.manifest_rows.specs.declared.GotBorrowHead.{GotBorrowHead}
-use Rattle.manifest_rows.specs.declared.GotBorrowHead.TheVariants as borrow_head
 use Rattle.manifest_rows.specs.declared.TreeHead.{TreeHead}
-use Rattle.manifest_rows.specs.declared.GotTreeHead.{GotTreeHead}
-use Rattle.manifest_rows.specs.declared.GotTreeHead.TheVariants as tree_head
 use Rattle.manifest_rows.specs.Stored.{PlaceIn, PlaceOver}
-use Rattle.manifest_rows.specs.Steps.{run_head_at, borrow_head_at, tree_head_at, got_run_head, got_borrow_head, got_tree_head, FirstHalf, first_at, SecondHalf, second_at}
+use Rattle.manifest_rows.specs.Steps.{run_head_at, borrow_head_at, tree_head_at, FirstHalf, first_at, SecondHalf, second_at}
 use Rattle.manifest_rows.proofs.Goes.{goes, goes_key, goes_view_mark, goes_sst_mark, goes_final, goes_sst_id}
 use Rattle.manifest_rows.proofs.Overs.{Alike, alike, both_wrong, place_over}
 
@@ -53,34 +39,34 @@ module _ {A H : Type 0} (R : H → ℕ → Got A → Type 0) where
   cut_on (is y p) k l f = f y p refl
   cut_on (wrong q) k l f = refl
 
-  cut_group : (x : Group) (k : ℕ → ℕ → Got H) (l : ℕ → ℕ → Got A) → ((n p : ℕ) → x ≡ group.Of n p → Cut R (k n p) (l n p)) → Cut R (on_group wrong x k) (on_group wrong x l)
-  cut_group (group.Of n p) k l f = f n p refl
-  cut_group (group.Wrong q) k l f = refl
+  cut_group : (x : Result (ℕ × ℕ) ℕ) (k : ℕ → ℕ → Got H) (l : ℕ → ℕ → Got A) → ((n p : ℕ) → x ≡ Ok (n, p) → Cut R (k n p) (l n p)) → Cut R (on_group wrong x k) (on_group wrong x l)
+  cut_group (Ok (n, p)) k l f = f n p refl
+  cut_group (Err q) k l f = refl
 
   -- a list, of which the part has its size
-  cut_list : {B : Type 0} (x : Group) (one : ℕ → Got B) (k : ℕ → ℕ → Got H) (l : List B → ℕ → Got A) → ((n p : ℕ) → x ≡ group.Of n p → Cut R (k n p) (on (many one n p) l))
+  cut_list : {B : Type 0} (x : Result (ℕ × ℕ) ℕ) (one : ℕ → Got B) (k : ℕ → ℕ → Got H) (l : List B → ℕ → Got A) → ((n p : ℕ) → x ≡ Ok (n, p) → Cut R (k n p) (on (many one n p) l))
       → Cut R (on_group wrong x k) (on (on_group wrong x λ n p. many one n p) l)
-  cut_list (group.Of n p) one k l f = f n p refl
-  cut_list (group.Wrong q) one k l f = refl
+  cut_list (Ok (n, p)) one k l f = f n p refl
+  cut_list (Err q) one k l f = refl
 
-  cut_uint : (x : Uint) (k : ℕ → ℕ → Got H) (l : ℕ → ℕ → Got A) → ((n p : ℕ) → x ≡ uint.Is n p → Cut R (k n p) (l n p)) → Cut R (on_uint wrong x k) (on_uint wrong x l)
-  cut_uint (uint.Is n p) k l f = f n p refl
-  cut_uint (uint.Wrong q) k l f = refl
+  cut_uint : (x : Result (ℕ × ℕ) ℕ) (k : ℕ → ℕ → Got H) (l : ℕ → ℕ → Got A) → ((n p : ℕ) → x ≡ Ok (n, p) → Cut R (k n p) (l n p)) → Cut R (on_uint wrong x k) (on_uint wrong x l)
+  cut_uint (Ok (n, p)) k l f = f n p refl
+  cut_uint (Err q) k l f = refl
 
-  cut_flag : (x : Flag) (k : Bool → ℕ → Got H) (l : Bool → ℕ → Got A) → ((b : Bool) (p : ℕ) → x ≡ flag.Is b p → Cut R (k b p) (l b p)) → Cut R (on_flag wrong x k) (on_flag wrong x l)
-  cut_flag (flag.Is b p) k l f = f b p refl
-  cut_flag (flag.Wrong q) k l f = refl
+  cut_flag : (x : Result (Bool × ℕ) ℕ) (k : Bool → ℕ → Got H) (l : Bool → ℕ → Got A) → ((b : Bool) (p : ℕ) → x ≡ Ok (b, p) → Cut R (k b p) (l b p)) → Cut R (on_flag wrong x k) (on_flag wrong x l)
+  cut_flag (Ok (b, p)) k l f = f b p refl
+  cut_flag (Err q) k l f = refl
 
-  cut_id : (x : Id) (k : ℕ → ℕ → ℕ → Got H) (l : ℕ → ℕ → ℕ → Got A) → ((hi lo p : ℕ) → x ≡ id.Is hi lo p → Cut R (k hi lo p) (l hi lo p)) → Cut R (on_id wrong x k) (on_id wrong x l)
-  cut_id (id.Is hi lo p) k l f = f hi lo p refl
-  cut_id (id.Wrong q) k l f = refl
+  cut_id : (x : Result (ℕ × ℕ × ℕ) ℕ) (k : ℕ → ℕ → ℕ → Got H) (l : ℕ → ℕ → ℕ → Got A) → ((hi lo p : ℕ) → x ≡ Ok (hi, lo, p) → Cut R (k hi lo p) (l hi lo p)) → Cut R (on_id wrong x k) (on_id wrong x l)
+  cut_id (Ok (hi, lo, p)) k l f = f hi lo p refl
+  cut_id (Err q) k l f = refl
 
   cut_ended : (s : List ℕ) (n parts : ℕ) (x : H) (y : A) (p : ℕ) → ((q : ℕ) → R x q (is y q)) → Cut R (ended s n parts x p) (ended s n parts y p)
   cut_ended s n parts x y p f = go (rest_at s p n parts)
     where
-      go : (r : Skipped) → Cut R (on_skipped wrong r λ q. is x q) (on_skipped wrong r λ q. is y q)
-      go (Past q) = f q
-      go (Bad q) = refl
+      go : (r : Result ℕ ℕ) → Cut R (on_skipped wrong r λ q. is x q) (on_skipped wrong r λ q. is y q)
+      go (Ok q) = f q
+      go (Err q) = refl
 
   -- a key, of which the part has the place
   cut_key : (s : List ℕ) (a : ℕ) (k : Place → ℕ → Got H) (l : List ℕ → ℕ → Got A) → ((x : Place) (p : ℕ) → key_at s a ≡ is (bytes_in s x) p → PlaceIn (length s) x → Cut R (k x p) (l (bytes_in s x) p))
@@ -106,12 +92,11 @@ module _ (s : List ℕ) (at : ℕ) where
       let c = group_within s p₁ 0 k p₂ e₂ in
       record { past = omega arith; small = omega arith; rest = refl }
 
-  module _ (r : GotRunHead) (e : got_run_head r ≡ run_head_at s at) where
-    pub run_begun : (h : RunHead) (p : ℕ) → r ≡ run_head.Is h p → RunBegun h p (run_at s at)
-    run_begun h p f = cut_is RunBegun (run_head_at s at) (run_at s at) h p run_cut (sym e ∙ ap got_run_head f)
+  pub run_begun : (h : RunHead) (p : ℕ) → is h p ≡ run_head_at s at → RunBegun h p (run_at s at)
+  run_begun h p e = cut_is RunBegun (run_head_at s at) (run_at s at) h p run_cut (sym e)
 
-    pub run_wrong : (q : ℕ) → r ≡ run_head.Wrong q → run_at s at ≡ wrong q
-    run_wrong q f = cut_wrong RunBegun (run_head_at s at) (run_at s at) q run_cut (sym e ∙ ap got_run_head f)
+  pub run_wrong : (q : ℕ) → wrong q ≡ run_head_at s at → run_at s at ≡ wrong q
+  run_wrong q e = cut_wrong RunBegun (run_head_at s at) (run_at s at) q run_cut (sym e)
 
   pub record BorrowBegun (h : BorrowHead) (p : ℕ) (g : Got Borrow) : Type 0 where
     pub past : at < p
@@ -130,12 +115,11 @@ module _ (s : List ℕ) (at : ℕ) where
       let g = group_within s p₃ 0 k p₄ e₄ in
       record { past = omega arith; inside = i; rest = refl }
 
-  module _ (r : GotBorrowHead) (e : got_borrow_head r ≡ borrow_head_at s at) where
-    pub borrow_begun : (h : BorrowHead) (p : ℕ) → r ≡ borrow_head.Is h p → BorrowBegun h p (borrow_at s at)
-    borrow_begun h p f = cut_is BorrowBegun (borrow_head_at s at) (borrow_at s at) h p borrow_cut (sym e ∙ ap got_borrow_head f)
+  pub borrow_begun : (h : BorrowHead) (p : ℕ) → is h p ≡ borrow_head_at s at → BorrowBegun h p (borrow_at s at)
+  borrow_begun h p e = cut_is BorrowBegun (borrow_head_at s at) (borrow_at s at) h p borrow_cut (sym e)
 
-    pub borrow_wrong : (q : ℕ) → r ≡ borrow_head.Wrong q → borrow_at s at ≡ wrong q
-    borrow_wrong q f = cut_wrong BorrowBegun (borrow_head_at s at) (borrow_at s at) q borrow_cut (sym e ∙ ap got_borrow_head f)
+  pub borrow_wrong : (q : ℕ) → wrong q ≡ borrow_head_at s at → borrow_at s at ≡ wrong q
+  borrow_wrong q e = cut_wrong BorrowBegun (borrow_head_at s at) (borrow_at s at) q borrow_cut (sym e)
 
   pub record TreeBegun (h : TreeHead) (p : ℕ) (g : Got Tree) : Type 0 where
     pub past : at < p
@@ -152,12 +136,11 @@ module _ (s : List ℕ) (at : ℕ) where
       let d = group_within s p₂ 0 k p₃ e₃ in
       record { past = omega arith; rest = refl }
 
-  module _ (r : GotTreeHead) (e : got_tree_head r ≡ tree_head_at s at) where
-    pub tree_begun : (h : TreeHead) (p : ℕ) → r ≡ tree_head.Is h p → TreeBegun h p (tree_at s at)
-    tree_begun h p f = cut_is TreeBegun (tree_head_at s at) (tree_at s at) h p tree_cut (sym e ∙ ap got_tree_head f)
+  pub tree_begun : (h : TreeHead) (p : ℕ) → is h p ≡ tree_head_at s at → TreeBegun h p (tree_at s at)
+  tree_begun h p e = cut_is TreeBegun (tree_head_at s at) (tree_at s at) h p tree_cut (sym e)
 
-    pub tree_not : (q : ℕ) → r ≡ tree_head.Wrong q → tree_at s at ≡ wrong q
-    tree_not q f = cut_wrong TreeBegun (tree_head_at s at) (tree_at s at) q tree_cut (sym e ∙ ap got_tree_head f)
+  pub tree_not : (q : ℕ) → wrong q ≡ tree_head_at s at → tree_at s at ≡ wrong q
+  tree_not q e = cut_wrong TreeBegun (tree_head_at s at) (tree_at s at) q tree_cut (sym e)
 
 -- ---- a manifest's two halves
 

@@ -1,4 +1,5 @@
 -- What is read has no more rows than bytes, so no count of rows wraps. Assumes nothing.
+use Rattle.std.specs.Prelude.{Err, Ok, Result}
 use Prim.Native.Nat.{ℕ, zero, suc, ◌+◌, ◌-◌, ◌≤◌, ◌<◌}
 use mathlib.Core.Path.{◌≡◌, refl}
 use mathlib.Core.List.{List}
@@ -13,15 +14,6 @@ use Rattle.msgpack.specs.Skip.{after, many_of, value_of, rest_at, deepest}
 use Rattle.msgpack.specs.Read.{uint_at, bin_at, id_at, group_at, optional_at, optional_by, on_uint, on_bin, on_id, on_group, on_skipped, on_optional}
 use Rattle.msgpack.specs.declared.Head.{Head}
 use Rattle.msgpack.specs.declared.Head.TheVariants as head
-use Rattle.msgpack.specs.declared.Skipped.{Skipped}
-use Rattle.msgpack.specs.declared.Skipped.TheVariants.{Past, Bad}
-use Rattle.msgpack.specs.declared.Uint.{Uint}
-use Rattle.msgpack.specs.declared.Uint.TheVariants as uint
-use Rattle.msgpack.specs.declared.Bin.{Bin}
-use Rattle.msgpack.specs.declared.Bin.TheVariants as bin
-use Rattle.msgpack.specs.declared.Id.TheVariants as id
-use Rattle.msgpack.specs.declared.Group.{Group}
-use Rattle.msgpack.specs.declared.Group.TheVariants as group
 use Rattle.msgpack.proofs.Ahead.{Ahead, head_within, past_within}
 use Rattle.msgpack.proofs.Told.{UintTold, uint_told, GroupTold, group_told, BinTold, bin_told}
 use Rattle.manifest_values.specs.Read.{Got, is, wrong, on, ended, many, list_of, option_of, key_at, last_at, edge_at, edge_by, seen_at, view_at, run_at, view_mark_at, sst_mark_at, final_at, sst_id_at, tree_at, segment_at, borrow_at}
@@ -43,35 +35,35 @@ module _ {B : Type 0} (d at : ℕ) where
     goes_group : (least : ℕ) (k : ℕ → ℕ → Got B) → ((n p : ℕ) → a < p → Goes d at (k n p)) → Goes d at (on_group wrong (group_at s a least) k)
     goes_group least k l = go (group_at s a least) (group_told s a least)
       where
-        go : (g : Group) → GroupTold a (length s) least g → Goes d at (on_group wrong g k)
-        go (group.Of n p) t = l n p t.1.0
-        go (group.Wrong q) t = tt
+        go : (g : Result (ℕ × ℕ) ℕ) → GroupTold a (length s) least g → Goes d at (on_group wrong g k)
+        go (Ok (n, p)) t = l n p t.1.0
+        go (Err q) t = tt
 
     goes_uint : (most : ℕ) (k : ℕ → ℕ → Got B) → ((x p : ℕ) → a < p → Goes d at (k x p)) → Goes d at (on_uint wrong (uint_at s a most) k)
     goes_uint most k l = go (uint_at s a most) (uint_told s a most)
       where
-        go : (g : Uint) → UintTold a (length s) most g → Goes d at (on_uint wrong g k)
-        go (uint.Is x p) t = l x p t.1.0
-        go (uint.Wrong q) t = tt
+        go : (g : Result (ℕ × ℕ) ℕ) → UintTold a (length s) most g → Goes d at (on_uint wrong g k)
+        go (Ok (x, p)) t = l x p t.1.0
+        go (Err q) t = tt
 
     goes_bin : (k : ℕ → ℕ → ℕ → Got B) → ((b n p : ℕ) → a < p → Goes d at (k b n p)) → Goes d at (on_bin wrong (bin_at s a) k)
     goes_bin k l = go (bin_at s a) (bin_told s a)
       where
-        go : (g : Bin) → BinTold a (length s) g → Goes d at (on_bin wrong g k)
-        go (bin.Is b n p) t = l b n p (omega arith)
-        go (bin.Wrong q) t = tt
+        go : (g : Result (ℕ × ℕ × ℕ) ℕ) → BinTold a (length s) g → Goes d at (on_bin wrong g k)
+        go (Ok (b, n, p)) t = l b n p (omega arith)
+        go (Err q) t = tt
 
     goes_id : (k : ℕ → ℕ → ℕ → Got B) → ((hi lo p : ℕ) → a < p → Goes d at (k hi lo p)) → Goes d at (on_id wrong (id_at s a) k)
     unfolding id_at
     goes_id k l = go (bin_at s a) (bin_told s a)
       where
-        go : (g : Bin) → BinTold a (length s) g → Goes d at (on_id wrong (on_bin id.Wrong g λ f n p. pick (eqb n 16) (id.Is (be (take 8 (drop f s))) (be (take 8 (drop (f + 8) s))) p) (id.Wrong a)) k)
-        go (bin.Is b n p) t = by (eqb n 16)
+        go : (g : Result (ℕ × ℕ × ℕ) ℕ) → BinTold a (length s) g → Goes d at (on_id wrong (on_bin Err g λ f n p. pick (eqb n 16) (Ok ((be (take 8 (drop f s))), (be (take 8 (drop (f + 8) s))), p)) (Err a)) k)
+        go (Ok (b, n, p)) t = by (eqb n 16)
           where
-            by : (x : Bool) → Goes d at (on_id wrong (pick x (id.Is (be (take 8 (drop b s))) (be (take 8 (drop (b + 8) s))) p) (id.Wrong a)) k)
+            by : (x : Bool) → Goes d at (on_id wrong (pick x (Ok ((be (take 8 (drop b s))), (be (take 8 (drop (b + 8) s))), p)) (Err a)) k)
             by true = l _ _ p (omega arith)
             by false = tt
-        go (bin.Wrong q) t = tt
+        go (Err q) t = tt
 
     goes_option : (none : ℕ → Got B) (some : Got B) → ((p : ℕ) → a < p → Goes d at (none p)) → Goes d at some → Goes d at (on_optional (optional_at s a) none some)
     unfolding optional_at optional_by
@@ -90,32 +82,32 @@ module _ {B : Type 0} (d at : ℕ) where
         go (head.Map n p) t = m
 
 -- what is skipped is behind
-abbrev Behind : ℕ → Skipped → Type 0
-Behind a (Past q) = a ≤ q
-Behind a (Bad q) = Unit {0}
+abbrev Behind : ℕ → Result ℕ ℕ → Type 0
+Behind a (Ok q) = a ≤ q
+Behind a (Err q) = Unit {0}
 
 many_behind : (s : List ℕ) (r n a : ℕ) → Behind a (many_of (value_of s r) n a)
 unfolding many_of
 many_behind s r zero a = omega arith
 many_behind s r (suc n) a = go (value_of s r a) refl (λ p. many_behind s r n p)
   where
-    on_from : (p : ℕ) (x : Skipped) → a ≤ p → Behind p x → Behind a x
-    on_from p (Past q) h b = omega arith
-    on_from p (Bad q) h b = tt
+    on_from : (p : ℕ) (x : Result ℕ ℕ) → a ≤ p → Behind p x → Behind a x
+    on_from p (Ok q) h b = omega arith
+    on_from p (Err q) h b = tt
 
-    go : (x : Skipped) → value_of s r a ≡ x → ((p : ℕ) → Behind p (many_of (value_of s r) n p)) → Behind a (after x (λ p. many_of (value_of s r) n p))
-    go (Past p) e f = let h = past_within s r a p e in on_from p (many_of (value_of s r) n p) (omega arith) (f p)
-    go (Bad q) e f = tt
+    go : (x : Result ℕ ℕ) → value_of s r a ≡ x → ((p : ℕ) → Behind p (many_of (value_of s r) n p)) → Behind a (after x (λ p. many_of (value_of s r) n p))
+    go (Ok p) e f = let h = past_within s r a p e in on_from p (many_of (value_of s r) n p) (omega arith) (f p)
+    go (Err q) e f = tt
 
-pub rest_past : (s : List ℕ) (p n parts e : ℕ) → rest_at s p n parts ≡ Past e → p ≤ e
-rest_past s p n parts e h = rw h at (many_behind s deepest (n - parts) p)
+pub rest_past : (s : List ℕ) (p n parts e : ℕ) → Ok e ≡ rest_at s p n parts → p ≤ e
+rest_past s p n parts e h = rw (← h) at (many_behind s deepest (n - parts) p)
 
 goes_ended : {A : Type 0} (d at : ℕ) (s : List ℕ) (n parts : ℕ) (x : A) (p : ℕ) → at + d ≤ p → Goes d at (ended s n parts x p)
 goes_ended d at s n parts x p h = go (rest_at s p n parts) (many_behind s deepest (n - parts) p)
   where
-    go : (r : Skipped) → Behind p r → Goes d at (on_skipped wrong r λ q. is x q)
-    go (Past q) b = omega arith
-    go (Bad q) b = tt
+    go : (r : Result ℕ ℕ) → Behind p r → Goes d at (on_skipped wrong r λ q. is x q)
+    go (Ok q) b = omega arith
+    go (Err q) b = tt
 
 pub goes_many : {A : Type 0} (one : ℕ → Got A) → ((a : ℕ) → Goes 1 a (one a)) → (n at : ℕ) → Goes 0 at (many one n at)
 unfolding many

@@ -1,4 +1,5 @@
 -- The rows over the input stand for what is read from it. Assumes nothing.
+use Rattle.std.specs.Prelude.{Err, None, Ok, Option, Result, Some}
 use Prim.Native.Nat.{ℕ, zero, suc}
 use mathlib.Core.Path.{◌≡◌, refl, sym, ap, ◌∙◌}
 use mathlib.Core.List.{List}
@@ -10,32 +11,14 @@ use Rattle.keys.specs.declared.Bound.{Bound}
 use Rattle.records.specs.Model.{LastKey, Seen, Extractor}
 use Rattle.records.specs.Decode.{bytes_in, last_in, seen_in, view_in, name_in}
 use Rattle.records.specs.declared.Place.{Place}
-use Rattle.records.specs.declared.Last.{Last}
-use Rattle.records.specs.declared.Visible.{Visible}
 use Rattle.msgpack.specs.Skip.{rest_at}
 use Rattle.msgpack.specs.Read.{uint_at, bin_at, id_at, group_at, optional_at, on_uint, on_bin, on_id, on_group, on_skipped, on_optional}
-use Rattle.msgpack.specs.declared.Skipped.{Skipped}
-use Rattle.msgpack.specs.declared.Skipped.TheVariants.{Past, Bad}
-use Rattle.msgpack.specs.declared.Uint.{Uint}
-use Rattle.msgpack.specs.declared.Uint.TheVariants as uint
-use Rattle.msgpack.specs.declared.Bin.{Bin}
-use Rattle.msgpack.specs.declared.Bin.TheVariants as bin
-use Rattle.msgpack.specs.declared.Id.{Id}
-use Rattle.msgpack.specs.declared.Id.TheVariants as id
-use Rattle.msgpack.specs.declared.Group.{Group}
-use Rattle.msgpack.specs.declared.Group.TheVariants as group
-use Rattle.msgpack.specs.declared.Optional.{Optional}
-use Rattle.msgpack.specs.declared.Optional.TheVariants as optional
 use Rattle.manifest_values.specs.Read.{Got, is, wrong, on, ended, key_at, edge_by, edge_at, seen_at, last_at, view_at, name_at}
 use Rattle.manifest_values.specs.Rows as rows
-use Rattle.manifest_values.specs.Rows.{got_place, got_name}
-use Rattle.manifest_values.specs.declared.GotName.{GotName}
-use Rattle.manifest_values.specs.declared.GotName.TheVariants as name
-use Rattle.records.specs.declared.Name.{Name}
-use Rattle.manifest_values.specs.declared.GotPlace.{GotPlace}
-use Rattle.manifest_values.specs.declared.GotPlace.TheVariants as place
+use Rattle.manifest_values.specs.Rows.{got}
 use Rattle.manifest_rows.specs.Stored.{PlaceIn, BoundIn, LastIn, VisibleIn, ViewOver, PlaceOver, NameIn}
 use Rattle.manifest_values.proofs.Places.{bin_in, bin_part}
+use Rattle.keys.specs.declared.Range.{Range}
 
 -- one read as another: what was read stands so to each other, and ends at the same place; or both are wrong at the same place
 pub data Alike {A B : Type 0} (R : A → B → Type 0) : Got A → Got B → Type 0 where
@@ -47,45 +30,45 @@ module _ {A B : Type 0} (R : A → B → Type 0) where
   alike_on S g h k l (alike {x} {y} {p} r) f = f x y p r
   alike_on S g h k l both_wrong f = both_wrong
 
-  alike_group : (g : Group) (k : ℕ → ℕ → Got A) (l : ℕ → ℕ → Got B) → ((n p : ℕ) → Alike R (k n p) (l n p)) → Alike R (on_group wrong g k) (on_group wrong g l)
-  alike_group (group.Of n p) k l f = f n p
-  alike_group (group.Wrong q) k l f = both_wrong
+  alike_group : (g : Result (ℕ × ℕ) ℕ) (k : ℕ → ℕ → Got A) (l : ℕ → ℕ → Got B) → ((n p : ℕ) → Alike R (k n p) (l n p)) → Alike R (on_group wrong g k) (on_group wrong g l)
+  alike_group (Ok (n, p)) k l f = f n p
+  alike_group (Err q) k l f = both_wrong
 
-  alike_uint : (g : Uint) (k : ℕ → ℕ → Got A) (l : ℕ → ℕ → Got B) → ((n p : ℕ) → Alike R (k n p) (l n p)) → Alike R (on_uint wrong g k) (on_uint wrong g l)
-  alike_uint (uint.Is n p) k l f = f n p
-  alike_uint (uint.Wrong q) k l f = both_wrong
+  alike_uint : (g : Result (ℕ × ℕ) ℕ) (k : ℕ → ℕ → Got A) (l : ℕ → ℕ → Got B) → ((n p : ℕ) → Alike R (k n p) (l n p)) → Alike R (on_uint wrong g k) (on_uint wrong g l)
+  alike_uint (Ok (n, p)) k l f = f n p
+  alike_uint (Err q) k l f = both_wrong
 
-  alike_id : (g : Id) (k : ℕ → ℕ → ℕ → Got A) (l : ℕ → ℕ → ℕ → Got B) → ((hi lo p : ℕ) → Alike R (k hi lo p) (l hi lo p)) → Alike R (on_id wrong g k) (on_id wrong g l)
-  alike_id (id.Is hi lo p) k l f = f hi lo p
-  alike_id (id.Wrong q) k l f = both_wrong
+  alike_id : (g : Result (ℕ × ℕ × ℕ) ℕ) (k : ℕ → ℕ → ℕ → Got A) (l : ℕ → ℕ → ℕ → Got B) → ((hi lo p : ℕ) → Alike R (k hi lo p) (l hi lo p)) → Alike R (on_id wrong g k) (on_id wrong g l)
+  alike_id (Ok (hi, lo, p)) k l f = f hi lo p
+  alike_id (Err q) k l f = both_wrong
 
-  alike_option : (g : Optional) (k : ℕ → Got A) (l : ℕ → Got B) (x : Got A) (y : Got B) → ((p : ℕ) → Alike R (k p) (l p)) → Alike R x y → Alike R (on_optional g k x) (on_optional g l y)
-  alike_option (optional.Absent p) k l x y f a = f p
-  alike_option optional.Present k l x y f a = a
+  alike_option : (g : Option ℕ) (k : ℕ → Got A) (l : ℕ → Got B) (x : Got A) (y : Got B) → ((p : ℕ) → Alike R (k p) (l p)) → Alike R x y → Alike R (on_optional g k x) (on_optional g l y)
+  alike_option (Some p) k l x y f a = f p
+  alike_option None k l x y f a = a
 
   alike_ended : (s : List ℕ) (n parts : ℕ) (x : A) (y : B) (p : ℕ) → R x y → Alike R (ended s n parts x p) (ended s n parts y p)
   alike_ended s n parts x y p r = go (rest_at s p n parts)
     where
-      go : (k : Skipped) → Alike R (on_skipped wrong k λ q. is x q) (on_skipped wrong k λ q. is y q)
-      go (Past q) = alike r
-      go (Bad q) = both_wrong
+      go : (k : Result ℕ ℕ) → Alike R (on_skipped wrong k λ q. is x q) (on_skipped wrong k λ q. is y q)
+      go (Ok q) = alike r
+      go (Err q) = both_wrong
 
 module _ (s : List ℕ) where
   abbrev BoundOver : Bound → Edge → Type 0
   BoundOver b e = (edge_of s b ≡ e) × BoundIn (length s) b
 
-  abbrev LastOver : Last → LastKey → Type 0
+  abbrev LastOver : Option Place → LastKey → Type 0
   LastOver l k = (last_in s l ≡ k) × LastIn (length s) l
 
-  abbrev VisibleOver : Visible → Seen → Type 0
+  abbrev VisibleOver : Option Range → Seen → Type 0
   VisibleOver v e = (seen_in s v ≡ e) × VisibleIn (length s) v
 
   pub place_over : (at : ℕ) → Alike (PlaceOver s) (rows.place_at s at) (key_at s at)
   place_over at = go (bin_at s at) refl
     where
-      go : (g : Bin) → bin_at s at ≡ g → Alike (PlaceOver s) (on_bin wrong g λ from len p. is (record { at = from; len = len }) p) (on_bin wrong g λ from len p. is (take len (drop from s)) p)
-      go (bin.Is f n p) e = alike (bin_part s at f n p e, bin_in s at f n p e)
-      go (bin.Wrong q) e = both_wrong
+      go : (g : Result (ℕ × ℕ × ℕ) ℕ) → bin_at s at ≡ g → Alike (PlaceOver s) (on_bin wrong g λ from len p. is (record { at = from; len = len }) p) (on_bin wrong g λ from len p. is (take len (drop from s)) p)
+      go (Ok (f, n, p)) e = alike (bin_part s at f n p e, bin_in s at f n p e)
+      go (Err q) e = both_wrong
 
   bound_by_lem : (kind : ℕ) (p : Place) (k : List ℕ) → PlaceOver s p k → BoundOver (rows.bound_by kind p) (edge_by kind k)
   bound_by_lem zero p k o = (rw o.0, o.1)
@@ -132,20 +115,20 @@ module _ {A B : Type 0} (R : A → B → Type 0) where
   alike_wrong g h q (alike {x = x₀} {y = y} {p = p₀} r) e = let z : ◌≡◌ {A = ℕ} 0 1 = cc in absurd (omega arith)
   alike_wrong g h q both_wrong e = cc
 
-module _ (s : List ℕ) (at : ℕ) (r : GotPlace) (e : got_place r ≡ rows.place_at s at) where
-  pub place_is : (x : Place) (p : ℕ) → r ≡ place.Is x p → key_at s at ≡ is (bytes_in s x) p
-  place_is x p f =
-      let a = alike_is (PlaceOver s) (rows.place_at s at) (key_at s at) x p (place_over s at) (sym e ∙ ap got_place f) in
+module _ (s : List ℕ) (at : ℕ) where
+  pub place_is : (x : Place) (p : ℕ) → is x p ≡ rows.place_at s at → key_at s at ≡ is (bytes_in s x) p
+  place_is x p e =
+      let a = alike_is (PlaceOver s) (rows.place_at s at) (key_at s at) x p (place_over s at) (sym e) in
       a.1 ∙ ap (λ (k : List ℕ). is k p) (sym a.2.0)
 
-  pub place_in : (x : Place) (p : ℕ) → r ≡ place.Is x p → PlaceIn (length s) x
-  place_in x p f = (alike_is (PlaceOver s) (rows.place_at s at) (key_at s at) x p (place_over s at) (sym e ∙ ap got_place f)).2.1
+  pub place_in : (x : Place) (p : ℕ) → is x p ≡ rows.place_at s at → PlaceIn (length s) x
+  place_in x p e = (alike_is (PlaceOver s) (rows.place_at s at) (key_at s at) x p (place_over s at) (sym e)).2.1
 
-  pub place_wrong : (q : ℕ) → r ≡ place.Wrong q → key_at s at ≡ wrong q
-  place_wrong q f = alike_wrong (PlaceOver s) (rows.place_at s at) (key_at s at) q (place_over s at) (sym e ∙ ap got_place f)
+  pub place_wrong : (q : ℕ) → wrong q ≡ rows.place_at s at → key_at s at ≡ wrong q
+  place_wrong q e = alike_wrong (PlaceOver s) (rows.place_at s at) (key_at s at) q (place_over s at) (sym e)
 
 module _ (s : List ℕ) where
-  abbrev NameOver : Name → Extractor → Type 0
+  abbrev NameOver : Option Place → Extractor → Type 0
   NameOver n x = (name_in s n ≡ x) × NameIn (length s) n
 
   name_over : (at : ℕ) → Alike NameOver (rows.name_at s at) (name_at s at)
@@ -153,14 +136,14 @@ module _ (s : List ℕ) where
       alike_option NameOver (optional_at s at) _ _ _ _ (λ p. alike (refl, tt))
       (alike_on NameOver (PlaceOver s) (rows.place_at s at) (key_at s at) _ _ (place_over s at) λ x k r o. alike (rw o.0, o.1))
 
-  module _ (at : ℕ) (r : GotName) (e : got_name r ≡ rows.name_at s at) where
-    pub name_is : (x : Name) (p : ℕ) → r ≡ name.Is x p → name_at s at ≡ is (name_in s x) p
-    name_is x p f =
-        let a = alike_is NameOver (rows.name_at s at) (name_at s at) x p (name_over at) (sym e ∙ ap got_name f) in
+  module _ (at : ℕ) where
+    pub name_is : (x : Option Place) (p : ℕ) → is x p ≡ rows.name_at s at → name_at s at ≡ is (name_in s x) p
+    name_is x p e =
+        let a = alike_is NameOver (rows.name_at s at) (name_at s at) x p (name_over at) (sym e) in
         a.1 ∙ ap (λ (k : Extractor). is k p) (sym a.2.0)
 
-    pub name_in_lem : (x : Name) (p : ℕ) → r ≡ name.Is x p → NameIn (length s) x
-    name_in_lem x p f = (alike_is NameOver (rows.name_at s at) (name_at s at) x p (name_over at) (sym e ∙ ap got_name f)).2.1
+    pub name_in_lem : (x : Option Place) (p : ℕ) → is x p ≡ rows.name_at s at → NameIn (length s) x
+    name_in_lem x p e = (alike_is NameOver (rows.name_at s at) (name_at s at) x p (name_over at) (sym e)).2.1
 
-    pub name_wrong : (q : ℕ) → r ≡ name.Wrong q → name_at s at ≡ wrong q
-    name_wrong q f = alike_wrong NameOver (rows.name_at s at) (name_at s at) q (name_over at) (sym e ∙ ap got_name f)
+    pub name_wrong : (q : ℕ) → wrong q ≡ rows.name_at s at → name_at s at ≡ wrong q
+    name_wrong q e = alike_wrong NameOver (rows.name_at s at) (name_at s at) q (name_over at) (sym e)

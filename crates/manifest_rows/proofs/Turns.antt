@@ -1,51 +1,40 @@
 -- Lists read one by one: a loop's turns. Assumes nothing.
+use Rattle.std.specs.Prelude.{Err, Ok, Result}
+use Rattle.std.specs.Result.{IsErrAnd}
 use Prim.Native.Nat.{ℕ, zero, suc, ◌+◌, ◌-◌, ◌≤◌, ◌<◌}
 use mathlib.Core.Path.{◌≡◌, refl, ap, ◌∙◌}
 use mathlib.Core.List.{List, [], ◌∷◌, ◌++◌}
 use native.Mathlib.Omega.{arith}
 use native.Mathlib.Nat.{zero-add, suc-add}
+use native.Mathlib.Numerals.{add-one}
 use lib.ListN.{length, length-append}
-use Rattle.msgpack.specs.declared.Skipped.{Skipped}
-use Rattle.msgpack.specs.declared.Skipped.TheVariants.{Past, Bad}
 use Rattle.manifest_values.specs.Read.{Got, is, wrong, on, many}
-use Rattle.manifest_rows.specs.Stored.{FilledIs, Filled, Steps, none, more, Two, UnderTwo, Moves, TreeStep, TreeMoves, Three, UnderThree, SegmentMoves}
+use Rattle.manifest_rows.specs.Stored.{FilledIs, Filled, Steps, none, more, Two, Moves, TreeMoves, Three, SegmentMoves}
 use Rattle.records.specs.Model.{Tree}
 use Rattle.records.specs.declared.TreeRow.{TreeRow}
-use Rattle.manifest_rows.specs.declared.GotTree.{GotTree}
-use Rattle.manifest_rows.specs.declared.GotTree.TheVariants as tree
 use Rattle.manifest_rows.specs.declared.Cursor.{Cursor}
-use Rattle.manifest_rows.specs.declared.Moved.{Moved}
-use Rattle.manifest_rows.specs.declared.Moved.TheVariants as moved
 
--- ---- an answer in hand
+-- ---- an answer that passes a wrong place on
 
-module _ {S A : Type 0} (Step : A → S → S → Type 0) (Under : S → ℕ → Type 0) (g : Got A) (σ σ' : S) (r : Skipped) (f : Filled Step Under g σ σ' r) where
-  pub filled_is : (p : ℕ) → r ≡ Past p → FilledIs Step Under g σ σ' p
-  filled_is p e = rw e at f
+module _ {S A : Type 0} (Step : A → S → S → Type 0) (Under : S → ℕ → Type 0) (g : Got A) (σ σ' : S) where
+  pub filled_not : (r : Result ℕ ℕ) (q : ℕ) → IsErrAnd r (λ y. y ≡ q) → g ≡ wrong q → Filled Step Under g σ σ' r
+  filled_not (Ok p) q h e = absurd h
+  filled_not (Err y) q h e = rw h e
 
-  pub filled_wrong : (q : ℕ) → r ≡ Bad q → g ≡ wrong q
-  filled_wrong q e = rw e at f
+module _ {A : Type 0} (Step : A → Two → Two → Type 0) (g : Got A) (σ : Two) (after : Cursor → Two) where
+  pub moves_not : (r : Result (ℕ × Cursor) ℕ) (q : ℕ) → IsErrAnd r (λ y. y ≡ q) → g ≡ wrong q → Moves Step g σ after r
+  moves_not (Ok x) q h e = absurd h
+  moves_not (Err y) q h e = rw h e
 
-module _ {A : Type 0} (Step : A → Two → Two → Type 0) (g : Got A) (σ : Two) (after : Cursor → Two) (r : Moved) (f : Moves Step g σ after r) where
-  pub moves_is : (p : ℕ) (c : Cursor) → r ≡ moved.At p c → FilledIs Step UnderTwo g σ (after c) p
-  moves_is p c e = rw e at f
+module _ (s : List ℕ) (g : Got Tree) (σ : Two) (after : Cursor → Two) where
+  pub tree_moves_not : (r : Result (TreeRow × ℕ × Cursor) ℕ) (q : ℕ) → IsErrAnd r (λ y. y ≡ q) → g ≡ wrong q → TreeMoves s g σ after r
+  tree_moves_not (Ok x) q h e = absurd h
+  tree_moves_not (Err y) q h e = rw h e
 
-  pub moves_wrong : (q : ℕ) → r ≡ moved.Wrong q → g ≡ wrong q
-  moves_wrong q e = rw e at f
-
-module _ (s : List ℕ) (g : Got Tree) (σ : Two) (after : Cursor → Two) (r : GotTree) (f : TreeMoves s g σ after r) where
-  pub tree_is : (row : TreeRow) (p : ℕ) (c : Cursor) → r ≡ tree.Is row p c → FilledIs (TreeStep s row) UnderTwo g σ (after c) p
-  tree_is row p c e = rw e at f
-
-  pub tree_wrong : (q : ℕ) → r ≡ tree.Wrong q → g ≡ wrong q
-  tree_wrong q e = rw e at f
-
-module _ {A : Type 0} (Step : A → Three → Three → Type 0) (g : Got A) (σ : Three) (after : Cursor → Three) (r : Moved) (f : SegmentMoves Step g σ after r) where
-  pub segment_is : (p : ℕ) (c : Cursor) → r ≡ moved.At p c → FilledIs Step UnderThree g σ (after c) p
-  segment_is p c e = rw e at f
-
-  pub segment_wrong : (q : ℕ) → r ≡ moved.Wrong q → g ≡ wrong q
-  segment_wrong q e = rw e at f
+module _ {A : Type 0} (Step : A → Three → Three → Type 0) (g : Got A) (σ : Three) (after : Cursor → Three) where
+  pub segment_moves_not : (r : Result (ℕ × Cursor) ℕ) (q : ℕ) → IsErrAnd r (λ y. y ≡ q) → g ≡ wrong q → SegmentMoves Step g σ after r
+  segment_moves_not (Ok x) q h e = absurd h
+  segment_moves_not (Err y) q h e = rw h e
 
 -- ---- one more at the end
 
@@ -99,47 +88,41 @@ module _ {A : Type 0} (one : ℕ → Got A) where
       by (is x q) h e = tail x (many one n q) (λ ys r f. h q ys r f) e
       by (wrong q) h e = let z : ◌≡◌ {A = ℕ} 0 1 = cc in absurd (omega arith)
 
--- ---- a loop over n values from `at` on: those left, the place and the tables now
+-- ---- a loop over n values from `at` on: those read, the place and the tables now
 
-pub record Turn {S A : Type 0} (Step : A → S → S → Type 0) (Under : S → ℕ → Type 0) (one : ℕ → Got A) (at n : ℕ) (σ₀ : S) (p left : ℕ) (σ : S) : Type 0 where
-  pub small : left ≤ n
-  pub so_far : FilledIs (Steps Step) Under (many one (n - left) at) σ₀ σ p
+pub record Turn {S A : Type 0} (Step : A → S → S → Type 0) (Under : S → ℕ → Type 0) (one : ℕ → Got A) (at n : ℕ) (σ₀ : S) (p k : ℕ) (σ : S) : Type 0 where
+  pub small : k ≤ n
+  pub so_far : FilledIs (Steps Step) Under (many one k at) σ₀ σ p
 
 module _ {S A : Type 0} (Step : A → S → S → Type 0) (Under : S → ℕ → Type 0) (one : ℕ → Got A) (at n : ℕ) (σ₀ : S) where
-  pub turn_none : Under σ₀ at → Turn Step Under one at n σ₀ at n σ₀
+  pub turn_none : Under σ₀ at → Turn Step Under one at n σ₀ at 0 σ₀
   unfolding many
-  turn_none u =
-      let z : n - n ≡ 0 = omega arith in
-      record { small = omega arith; so_far = rw z (record { value = []; read = refl; step = none; under = u }) }
+  turn_none u = record { small = omega arith; so_far = record { value = []; read = refl; step = none; under = u } }
 
-  module _ (p left : ℕ) (σ : S) (t : Turn Step Under one at n σ₀ p left σ) where
-    pub turn_more : (σ' : S) (q : ℕ) → 0 < left → FilledIs Step Under (one p) σ σ' q → Turn Step Under one at n σ₀ q (left - 1) σ'
+  module _ (p k : ℕ) (σ : S) (t : Turn Step Under one at n σ₀ p k σ) where
+    pub turn_more : (σ' : S) (q : ℕ) → k < n → FilledIs Step Under (one p) σ σ' q → Turn Step Under one at n σ₀ q (k + 1) σ'
     turn_more σ' q h f =
-        let m : n - (left - 1) ≡ suc (n - left) = omega (arith, t.small) in
-        record {
-          small = omega (arith, t.small);
+        rw add-one
+        (record {
+          small = omega arith;
           so_far =
-              rw m
-              (record {
+              record {
                 value = t.so_far.value ++ (f.value ∷ []);
-                read = many_is one (n - left) at t.so_far.value p f.value q t.so_far.read f.read;
+                read = many_is one k at t.so_far.value p f.value q t.so_far.read f.read;
                 step = more t.so_far.step f.step;
                 under = f.under;
-              });
-        }
+              };
+        })
 
-    pub turn_wrong : (q : ℕ) → 0 < left → one p ≡ wrong q → many one n at ≡ wrong q
+    pub turn_wrong : (q : ℕ) → k < n → one p ≡ wrong q → many one n at ≡ wrong q
     turn_wrong q h e =
-        let m : n ≡ left - 1 + suc (n - left) = omega (arith, t.small) in
-        ap (λ (k : ℕ). many one k at) m
-        ∙ wrong_on one (left - 1) (suc (n - left)) at q (many_wrong one (n - left) at t.so_far.value p q t.so_far.read e)
+        let m : n ≡ n - suc k + suc k = omega arith in
+        ap (λ (i : ℕ). many one i at) m ∙ wrong_on one (n - suc k) (suc k) at q (many_wrong one k at t.so_far.value p q t.so_far.read e)
 
-    pub turn_all : left ≤ 0 → FilledIs (Steps Step) Under (many one n at) σ₀ σ p
-    turn_all h = let z : n - left ≡ n = omega arith in rw z at t.so_far
+    pub turn_all : n ≤ k → FilledIs (Steps Step) Under (many one n at) σ₀ σ p
+    turn_all h = let z : k ≡ n = omega (arith, t.small) in rw z at t.so_far
 
--- the cursor after the last of n
-pub all_in : (i left m : ℕ) → i + left ≡ m → left ≤ 0 → i ≡ m
-all_in i left m e h = omega arith
+pub ruleset turns = (turn_none, turn_more, turn_wrong, turn_all, filled_not, moves_not, segment_moves_not)
 
 -- each value takes a row
 pub steps_next : {S A : Type 0} (Step : A → S → S → Type 0) (next : S → ℕ) → ((x : A) (σ σ' : S) → Step x σ σ' → next σ' ≡ next σ + 1)

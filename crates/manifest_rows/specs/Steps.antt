@@ -1,11 +1,10 @@
 -- Parts of what is read, for the functions that read them one after the other: what stands before a list, and a manifest's two halves.
 -- No public promise speaks of it.
-use Rattle.std.specs.Prelude.{ℕ, ◌-◌, ◌^◌, ◌≡◌, Bool, List, length}
+use Rattle.std.specs.Prelude.{ℕ, ◌-◌, ◌^◌, ◌≡◌, Bool, List, length, Err, Ok, Option, Result}
 use Rattle.records.specs.Model.{Borrow, Extractor}
 use Rattle.records.specs.Decode.{name_in}
 use Rattle.records.specs.declared.Fill.{Fill}
 use Rattle.records.specs.declared.ManifestRow.{ManifestRow}
-use Rattle.records.specs.declared.Name.{Name}
 use Rattle.msgpack.specs.Read.{uint_at, flag_at, id_at, group_at, list_at, on_uint, on_flag, on_id, on_group}
 use Rattle.manifest_values.specs.Read.{Got, is, wrong, on, ended, view_mark_at, sst_mark_at, final_at, Trees, trees_at, name_at, numbers_at, borrows_at, epochs_at}
 use Rattle.manifest_values.specs.Rows.{place_at}
@@ -13,20 +12,11 @@ use Rattle.manifest_values.specs.declared.Numbers.{Numbers}
 use Rattle.manifest_values.specs.declared.Epochs.{Epochs}
 use Rattle.manifest_rows.specs.declared.Cursor.{Cursor}
 use Rattle.manifest_rows.specs.declared.RunHead.{RunHead}
-use Rattle.manifest_rows.specs.declared.GotRunHead.{GotRunHead}
-use Rattle.manifest_rows.specs.declared.GotRunHead.TheVariants as run_head
 use Rattle.manifest_rows.specs.declared.BorrowHead.{BorrowHead}
-use Rattle.manifest_rows.specs.declared.GotBorrowHead.{GotBorrowHead}
-use Rattle.manifest_rows.specs.declared.GotBorrowHead.TheVariants as borrow_head
 use Rattle.manifest_rows.specs.declared.TreeHead.{TreeHead}
-use Rattle.manifest_rows.specs.declared.GotTreeHead.{GotTreeHead}
-use Rattle.manifest_rows.specs.declared.GotTreeHead.TheVariants as tree_head
 use Rattle.manifest_rows.specs.declared.First.{First}
-use Rattle.manifest_rows.specs.declared.GotFirst.{GotFirst}
-use Rattle.manifest_rows.specs.declared.GotFirst.TheVariants as first
-use Rattle.manifest_rows.specs.declared.GotManifest.{GotManifest}
-use Rattle.manifest_rows.specs.declared.GotManifest.TheVariants as manifest
 use Rattle.manifest_rows.specs.Stored.{Steps, Two, Three, BorrowStep, TreesStep, NameIn}
+use Rattle.records.specs.declared.Place.{Place}
 
 -- ---- what stands before a record's list: how many elements the record has, its values up to there, how many the list has
 
@@ -47,20 +37,6 @@ unfoldable pub tree_head_at : List ℕ → ℕ → Got TreeHead
 tree_head_at s at =
     on_group wrong (group_at s at 4) λ n p₀. on (view_mark_at s p₀) λ v p₁. on (sst_mark_at s p₁) λ x p₂. on_group wrong (list_at s p₂) λ k p₃.
     is (record { parts = n; view = v; sst = x; views = k }) p₃
-
--- the code's answers
-
-abbrev pub got_run_head : GotRunHead → Got RunHead
-got_run_head (run_head.Is x p) = is x p
-got_run_head (run_head.Wrong q) = wrong q
-
-abbrev pub got_borrow_head : GotBorrowHead → Got BorrowHead
-got_borrow_head (borrow_head.Is x p) = is x p
-got_borrow_head (borrow_head.Wrong q) = wrong q
-
-abbrev pub got_tree_head : GotTreeHead → Got TreeHead
-got_tree_head (tree_head.Is x p) = is x p
-got_tree_head (tree_head.Wrong q) = wrong q
 
 -- ---- a manifest's two halves: what was read, and what it makes of the tables
 
@@ -89,9 +65,9 @@ pub record FirstStep (s : List ℕ) (x : First) (h : FirstHalf) (σ σ' : Three)
   pub trees : TreesStep s x.tree h.trees σ σ'
 
 -- what reading the first half answers
-abbrev pub FirstMoves : List ℕ → Got FirstHalf → Three → (ℕ → Cursor → Three) → GotFirst → Type 0
-FirstMoves s g σ after (first.Is x p) = ReadAs (λ h. FirstStep s x h σ (after x.segments x.trees)) g p
-FirstMoves s g σ after (first.Wrong q) = g ≡ wrong q
+abbrev pub FirstMoves : List ℕ → Got FirstHalf → Three → (ℕ → Cursor → Three) → Result (First × ℕ) ℕ → Type 0
+FirstMoves s g σ after (Ok (x, p)) = ReadAs (λ h. FirstStep s x h σ (after x.segments x.trees)) g p
+FirstMoves s g σ after (Err q) = g ≡ wrong q
 
 -- "extractor name or none, next_wal_sst_id, replay_after_wal_id, last_l0_clock_tick (i64), last_l0_seq, recent_snapshot_min_seq, borrows,
 -- writer epoch, compactor epoch"
@@ -108,7 +84,7 @@ second_at s n at =
     ended s n 12 (record { extractor = name; numbers = x; borrows = bs; epochs = e }) p₃
 
 -- the row of a manifest with these halves
-abbrev pub row_of : First → Name → SecondHalf → ManifestRow
+abbrev pub row_of : First → Option Place → SecondHalf → ManifestRow
 row_of x name h =
     record {
       initialized = x.initialized;
@@ -131,7 +107,7 @@ fill_of x d = record { segments = x.segments; views = x.trees.inner; runs = x.tr
 
 -- the row and the counts are those of both halves, and the tables went from σ by the borrows
 pub record SecondStep (s : List ℕ) (x : First) (row : ManifestRow) (c : Fill) (h : SecondHalf) (σ : Two) (after : Cursor → Two) : Type 0 where
-  pub name : Name
+  pub name : Option Place
   pub over : name_in s name ≡ h.extractor
   pub inside : NameIn (length s) name
   pub is : row ≡ row_of x name h
@@ -140,6 +116,6 @@ pub record SecondStep (s : List ℕ) (x : First) (row : ManifestRow) (c : Fill) 
   pub counts : c ≡ fill_of x cursor
 
 -- what reading the second half answers
-abbrev pub SecondMoves : List ℕ → First → Got SecondHalf → Two → (Cursor → Two) → GotManifest → Type 0
-SecondMoves s x g σ after (manifest.Is row c p) = ReadAs (λ h. SecondStep s x row c h σ after) g p
-SecondMoves s x g σ after (manifest.Wrong q) = g ≡ wrong q
+abbrev pub SecondMoves : List ℕ → First → Got SecondHalf → Two → (Cursor → Two) → Result (ManifestRow × Fill × ℕ) ℕ → Type 0
+SecondMoves s x g σ after (Ok (row, c, p)) = ReadAs (λ h. SecondStep s x row c h σ after) g p
+SecondMoves s x g σ after (Err q) = g ≡ wrong q

@@ -1,5 +1,5 @@
 -- Rows in lent working tables: what stands where, and what is as it was.
-use Rattle.std.specs.Prelude.{ℕ, ◌+◌, ◌*◌, ◌/◌, ◌^◌, ◌≤◌, ◌<◌, ◌≡◌, List, [], ◌∷◌, ◌++◌, length, take, drop}
+use Rattle.std.specs.Prelude.{ℕ, ◌+◌, ◌*◌, ◌/◌, ◌^◌, ◌≤◌, ◌<◌, ◌≡◌, List, [], ◌∷◌, ◌++◌, length, take, drop, Err, None, Ok, Option, Result, Some}
 use Rattle.keys.specs.declared.Bound.{Bound}
 use Rattle.keys.specs.declared.Bound.TheVariants.{Unbounded, Included, Excluded}
 use Rattle.ids.specs.declared.SstId.{SstId}
@@ -7,28 +7,15 @@ use Rattle.records.specs.Model.{View, Run, Tree, Segment, Borrow, Manifest}
 use Rattle.records.specs.Decode.{Lent, bytes_in, view_in, name_in}
 use Rattle.records.specs.Words.{view_words, run_words, segment_words, borrow_words, id_words}
 use Rattle.records.specs.declared.Place.{Place}
-use Rattle.records.specs.declared.Last.{Last}
-use Rattle.records.specs.declared.Last.TheVariants.{Unknown, Known}
-use Rattle.records.specs.declared.Visible.{Visible}
-use Rattle.records.specs.declared.Visible.TheVariants.{All, Only}
 use Rattle.records.specs.declared.ViewRow.{ViewRow}
 use Rattle.records.specs.declared.RunRow.{RunRow}
 use Rattle.records.specs.declared.TreeRow.{TreeRow}
 use Rattle.records.specs.declared.BorrowRow.{BorrowRow}
 use Rattle.records.specs.declared.ManifestRow.{ManifestRow}
 use Rattle.records.specs.declared.Fill.{Fill}
-use Rattle.records.specs.declared.Name.{Name}
-use Rattle.records.specs.declared.Name.TheVariants.{Absent, Named}
-use Rattle.manifest_rows.specs.declared.GotManifest.{GotManifest}
-use Rattle.manifest_rows.specs.declared.GotManifest.TheVariants as manifest
-use Rattle.msgpack.specs.declared.Skipped.{Skipped}
-use Rattle.msgpack.specs.declared.Skipped.TheVariants.{Past, Bad}
 use Rattle.manifest_values.specs.Read.{Got, is, wrong, Trees}
 use Rattle.manifest_rows.specs.declared.Cursor.{Cursor}
-use Rattle.manifest_rows.specs.declared.Moved.{Moved}
-use Rattle.manifest_rows.specs.declared.Moved.TheVariants as moved
-use Rattle.manifest_rows.specs.declared.GotTree.{GotTree}
-use Rattle.manifest_rows.specs.declared.GotTree.TheVariants as tree
+use Rattle.keys.specs.declared.Range.{Range}
 
 -- xs stands in t from word n on
 abbrev pub Stands : List ℕ → ℕ → List ℕ → Type 0
@@ -53,9 +40,9 @@ pub record FilledIs {S A : Type 0} (Step : A → S → S → Type 0) (Under : S 
   pub step : Step value σ σ'
   pub under : Under σ' p
 
-abbrev pub Filled : {S A : Type 0} → (A → S → S → Type 0) → (S → ℕ → Type 0) → Got A → S → S → Skipped → Type 0
-Filled Step Under g σ σ' (Past p) = FilledIs Step Under g σ σ' p
-Filled Step Under g σ σ' (Bad q) = g ≡ wrong q
+abbrev pub Filled : {S A : Type 0} → (A → S → S → Type 0) → (S → ℕ → Type 0) → Got A → S → S → Result ℕ ℕ → Type 0
+Filled Step Under g σ σ' (Ok p) = FilledIs Step Under g σ σ' p
+Filled Step Under g σ σ' (Err q) = g ≡ wrong q
 
 -- some values in a row, each after those before it
 pub data Steps {S A : Type 0} (Step : A → S → S → Type 0) : List A → S → S → Type 0 where
@@ -83,13 +70,13 @@ BoundIn n Unbounded = Unit {0}
 BoundIn n (Included from len) = from + len ≤ n
 BoundIn n (Excluded from len) = from + len ≤ n
 
-abbrev pub LastIn : ℕ → Last → Type 0
-LastIn n Unknown = Unit {0}
-LastIn n (Known p) = PlaceIn n p
+abbrev pub LastIn : ℕ → Option Place → Type 0
+LastIn n None = Unit {0}
+LastIn n (Some p) = PlaceIn n p
 
-abbrev pub VisibleIn : ℕ → Visible → Type 0
-VisibleIn n All = Unit {0}
-VisibleIn n (Only r) = BoundIn n r.start × BoundIn n r.end
+abbrev pub VisibleIn : ℕ → Option Range → Type 0
+VisibleIn n None = Unit {0}
+VisibleIn n (Some r) = BoundIn n r.start × BoundIn n r.end
 
 -- a row whose places lie within s stands for v over s
 pub record ViewOver (s : List ℕ) (row : ViewRow) (v : View) : Type 0 where
@@ -122,9 +109,9 @@ abbrev pub UnderTwo : Two → ℕ → Type 0
 UnderTwo σ p = (σ.outer.next ≤ p) × (σ.inner.next ≤ p)
 
 -- `after c` is what the tables are where the cursors come to c
-abbrev pub Moves : {A : Type 0} → (A → Two → Two → Type 0) → Got A → Two → (Cursor → Two) → Moved → Type 0
-Moves Step g σ after (moved.At p c) = FilledIs Step UnderTwo g σ (after c) p
-Moves Step g σ after (moved.Wrong q) = g ≡ wrong q
+abbrev pub Moves : {A : Type 0} → (A → Two → Two → Type 0) → Got A → Two → (Cursor → Two) → Result (ℕ × Cursor) ℕ → Type 0
+Moves Step g σ after (Ok (p, c)) = FilledIs Step UnderTwo g σ (after c) p
+Moves Step g σ after (Err q) = g ≡ wrong q
 
 abbrev pub run_row : Table → Run → RunRow
 run_row views r = record { id = r.id; views = record { first = views.next; count = length r.views } }
@@ -164,9 +151,9 @@ pub record TreeStep (s : List ℕ) (row : TreeRow) (t : Tree) (σ σ' : Two) : T
   pub runs : Steps (RunStep s) t.runs (record { outer = σ.outer; inner = between }) σ'
   pub is : row ≡ record { view = t.view_mark; sst = t.sst_mark; l0 = record { first = σ.inner.next; count = length t.l0 }; compacted = record { first = σ.outer.next; count = length t.runs } }
 
-abbrev pub TreeMoves : List ℕ → Got Tree → Two → (Cursor → Two) → GotTree → Type 0
-TreeMoves s g σ after (tree.Is row p c) = FilledIs (TreeStep s row) UnderTwo g σ (after c) p
-TreeMoves s g σ after (tree.Wrong q) = g ≡ wrong q
+abbrev pub TreeMoves : List ℕ → Got Tree → Two → (Cursor → Two) → Result (TreeRow × ℕ × Cursor) ℕ → Type 0
+TreeMoves s g σ after (Ok (row, p, c)) = FilledIs (TreeStep s row) UnderTwo g σ (after c) p
+TreeMoves s g σ after (Err q) = g ≡ wrong q
 
 -- ---- segments, with the runs and views of their trees
 
@@ -189,9 +176,9 @@ pub record SegmentStep (s : List ℕ) (g : Segment) (σ σ' : Three) : Type 0 wh
   pub tree : TreeStep s row g.tree σ.rest σ'.rest
   pub stored : σ.segments.next < length σ.segments.words / 12 → Stands σ'.segments.words (σ.segments.next * 12) (segment_words (record { prefix = prefix; tree = row }))
 
-abbrev pub SegmentMoves : {A : Type 0} → (A → Three → Three → Type 0) → Got A → Three → (Cursor → Three) → Moved → Type 0
-SegmentMoves Step g σ after (moved.At p c) = FilledIs Step UnderThree g σ (after c) p
-SegmentMoves Step g σ after (moved.Wrong q) = g ≡ wrong q
+abbrev pub SegmentMoves : {A : Type 0} → (A → Three → Three → Type 0) → Got A → Three → (Cursor → Three) → Result (ℕ × Cursor) ℕ → Type 0
+SegmentMoves Step g σ after (Ok (p, c)) = FilledIs Step UnderThree g σ (after c) p
+SegmentMoves Step g σ after (Err q) = g ≡ wrong q
 
 -- ---- a tree and the segments after it
 
@@ -202,11 +189,11 @@ pub record TreesStep (s : List ℕ) (row : TreeRow) (x : Trees) (σ σ' : Three)
 
 -- ---- the manifest: its own row is a value, and c counts the rows of every table; no byte is filled in, the input is the pool
 
-abbrev pub NameIn : ℕ → Name → Type 0
-NameIn n Absent = Unit {0}
-NameIn n (Named p) = PlaceIn n p
+abbrev pub NameIn : ℕ → Option Place → Type 0
+NameIn n None = Unit {0}
+NameIn n (Some p) = PlaceIn n p
 
-abbrev pub manifest_row : Name → TreeRow → Manifest → ManifestRow
+abbrev pub manifest_row : Option Place → TreeRow → Manifest → ManifestRow
 manifest_row name tree m =
     record {
       initialized = m.initialized;
@@ -240,9 +227,9 @@ pub record ManifestIs (g : Got Manifest) (l l' : Lent) (row : ManifestRow) (c : 
   pub read : g ≡ is value p
   pub step : ManifestStep l l' row c value
 
-abbrev pub ManifestFilled : Got Manifest → Lent → Lent → GotManifest → Type 0
-ManifestFilled g l l' (manifest.Is row c p) = ManifestIs g l l' row c p
-ManifestFilled g l l' (manifest.Wrong q) = g ≡ wrong q
+abbrev pub ManifestFilled : Got Manifest → Lent → Lent → Result (ManifestRow × Fill × ℕ) ℕ → Type 0
+ManifestFilled g l l' (Ok (row, c, p)) = ManifestIs g l l' row c p
+ManifestFilled g l l' (Err q) = g ≡ wrong q
 
 abbrev pub lent : List ℕ → List ℕ → List ℕ → List ℕ → List ℕ → List ℕ → Lent
 lent segments views runs borrows ids pool = record { segments = segments; views = views; runs = runs; borrows = borrows; ids = ids; pool = pool }

@@ -1,4 +1,5 @@
 -- A clock tick that was read is an i64. Assumes nothing.
+use Rattle.std.specs.Prelude.{Err, Ok, Result}
 use Prim.Native.Nat.{ℕ, ◌^◌, ◌<◌}
 use mathlib.Core.Path.{◌≡◌, refl, ap}
 use mathlib.Core.Bool.{Bool, true, false}
@@ -15,21 +16,17 @@ use Rattle.msgpack.specs.Head.{head_of}
 use Rattle.msgpack.specs.Read.{int_by, int_at, uint_at, on_uint, on_int}
 use Rattle.msgpack.specs.declared.Head.{Head}
 use Rattle.msgpack.specs.declared.Head.TheVariants as head
-use Rattle.msgpack.specs.declared.Int.{Int}
-use Rattle.msgpack.specs.declared.Int.TheVariants as int
-use Rattle.msgpack.specs.declared.Uint.{Uint}
-use Rattle.msgpack.specs.declared.Uint.TheVariants as uint
 use Rattle.manifest_values.specs.Read.{Got, is, wrong, most, numbers_at}
 use Rattle.manifest_values.specs.declared.Numbers.{Numbers}
 
-abbrev IntFits : Int → Type 0
-IntFits (int.Is z p) = SFits w64 z
-IntFits (int.Wrong q) = Unit {0}
+abbrev IntFits : Result (ℤ × ℕ) ℕ → Type 0
+IntFits (Ok (z, p)) = SFits w64 z
+IntFits (Err q) = Unit {0}
 
-picked : (at p : ℕ) (z : ℤ) (x y : ℕ) → (x < y → SFits w64 z) → IntFits (pick (ltb x y) (int.Is z p) (int.Wrong at))
+picked : (at p : ℕ) (z : ℤ) (x y : ℕ) → (x < y → SFits w64 z) → IntFits (pick (ltb x y) (Ok (z, p)) (Err at))
 picked at p z x y f = go (ltb x y) refl
   where
-    go : (b : Bool) → ltb x y ≡ b → IntFits (pick b (int.Is z p) (int.Wrong at))
+    go : (b : Bool) → ltb x y ≡ b → IntFits (pick b (Ok (z, p)) (Err at))
     go true e = f (ltb-true x y e)
     go false e = tt
 
@@ -46,7 +43,7 @@ by_head at (head.Other p) = tt
 by_head at (head.Array n p) = tt
 by_head at (head.Map n p) = tt
 
-pub int_fits : (s : List ℕ) (at : ℕ) (z : ℤ) (p : ℕ) → int_at s at ≡ int.Is z p → SFits w64 z
+pub int_fits : (s : List ℕ) (at : ℕ) (z : ℤ) (p : ℕ) → int_at s at ≡ Ok (z, p) → SFits w64 z
 unfolding int_at
 int_fits s at z p e = rw e at (by_head at (head_of at (drop at s)))
 
@@ -62,13 +59,13 @@ abbrev TickFits : Got Numbers → Type 0
 TickFits (is x p) = SFits w64 x.last_l0_clock_tick
 TickFits (wrong q) = Unit {0}
 
-on_uint_lem : (u : Uint) (k : ℕ → ℕ → Got Numbers) → ((x p : ℕ) → TickFits (k x p)) → TickFits (on_uint wrong u k)
-on_uint_lem (uint.Is x p) k f = f x p
-on_uint_lem (uint.Wrong q) k f = tt
+on_uint_lem : (u : Result (ℕ × ℕ) ℕ) (k : ℕ → ℕ → Got Numbers) → ((x p : ℕ) → TickFits (k x p)) → TickFits (on_uint wrong u k)
+on_uint_lem (Ok (x, p)) k f = f x p
+on_uint_lem (Err q) k f = tt
 
-on_int_lem : (i : Int) (k : ℤ → ℕ → Got Numbers) → IntFits i → ((z : ℤ) (p : ℕ) → SFits w64 z → TickFits (k z p)) → TickFits (on_int wrong i k)
-on_int_lem (int.Is z p) k h f = f z p h
-on_int_lem (int.Wrong q) k h f = tt
+on_int_lem : (i : Result (ℤ × ℕ) ℕ) (k : ℤ → ℕ → Got Numbers) → IntFits i → ((z : ℤ) (p : ℕ) → SFits w64 z → TickFits (k z p)) → TickFits (on_int wrong i k)
+on_int_lem (Ok (z, p)) k h f = f z p h
+on_int_lem (Err q) k h f = tt
 
 pub numbers_fit : (s : List ℕ) (at : ℕ) (x : Numbers) (p : ℕ) → numbers_at s at ≡ is x p → SFits w64 x.last_l0_clock_tick
 unfolding numbers_at int_at

@@ -1,19 +1,15 @@
 -- Which manifest some bytes are, or where the first wrong value starts. "Reading accepts every integer, array and bin width"; "an array
 -- too short is itself wrong"; "Further elements after the named ones are skipped, nested ones included."
-use Rattle.std.specs.Prelude.{ℕ, zero, suc, ◌-◌, ◌^◌, List, [], ◌∷◌, take, drop}
+use Rattle.std.specs.Prelude.{ℕ, zero, suc, ◌-◌, ◌^◌, List, [], ◌∷◌, take, drop, None, Option, Some}
 use Rattle.keys.specs.Range.{Edge, unbounded, included, excluded}
 use Rattle.ids.specs.declared.SstId.{SstId}
-use Rattle.ids.specs.declared.ViewMark.{ViewMark}
-use Rattle.ids.specs.declared.ViewMark.TheVariants as view_marks
-use Rattle.ids.specs.declared.SstMark.{SstMark}
-use Rattle.ids.specs.declared.SstMark.TheVariants as sst_marks
-use Rattle.ids.specs.declared.Final.{Final}
-use Rattle.ids.specs.declared.Final.TheVariants as final
 use Rattle.records.specs.Model.{LastKey, unknown, known, Seen, all, only, View, Run, Tree, Segment, Borrow, Extractor, none, named, Manifest}
 use Rattle.msgpack.specs.Read.{uint_at, int_at, flag_at, bin_at, id_at, group_at, list_at, optional_at, on_uint, on_int, on_flag, on_bin, on_id, on_group, on_skipped, on_optional}
 use Rattle.msgpack.specs.Skip.{rest_at}
 use Rattle.manifest_values.specs.declared.Numbers.{Numbers}
 use Rattle.manifest_values.specs.declared.Epochs.{Epochs}
+use Rattle.ids.specs.declared.ViewId.{ViewId}
+use Rattle.ids.specs.declared.Uuid.{Uuid}
 
 -- what stands at a place, and the place after it; or the "start of the first wrong value"
 pub data Got (A : Type 0) : Type 0 where
@@ -48,14 +44,18 @@ key_at s at = on_bin wrong (bin_at s at) λ from len p. is (take len (drop from 
 abbrev pub sst_id_at : List ℕ → ℕ → Got SstId
 sst_id_at s at = on_id wrong (id_at s at) λ hi lo p. is (hi, lo) p
 
-abbrev pub view_mark_at : List ℕ → ℕ → Got ViewMark
-view_mark_at s at = option_of view_marks.None (λ p. on_id wrong (id_at s p) λ hi lo q. is (view_marks.Some (hi, lo)) q) s at
+-- an id or nil, whatever type holds the id: `of` makes one of its two halves
+abbrev pub mark_at : {A : Type 0} → (ℕ → ℕ → A) → List ℕ → ℕ → Got (Option A)
+mark_at of s at = option_of None (λ p. on_id wrong (id_at s p) λ hi lo q. is (Some (of hi lo)) q) s at
 
-abbrev pub sst_mark_at : List ℕ → ℕ → Got SstMark
-sst_mark_at s at = option_of sst_marks.None (λ p. on_id wrong (id_at s p) λ hi lo q. is (sst_marks.Some (hi, lo)) q) s at
+abbrev pub view_mark_at : List ℕ → ℕ → Got (Option ViewId)
+view_mark_at s at = mark_at (λ hi lo. (hi, lo)) s at
 
-abbrev pub final_at : List ℕ → ℕ → Got Final
-final_at s at = option_of final.None (λ p. on_id wrong (id_at s p) λ hi lo q. is (final.Some (hi, lo)) q) s at
+abbrev pub sst_mark_at : List ℕ → ℕ → Got (Option SstId)
+sst_mark_at s at = mark_at (λ hi lo. (hi, lo)) s at
+
+abbrev pub final_at : List ℕ → ℕ → Got (Option Uuid)
+final_at s at = mark_at (λ hi lo. (hi, lo)) s at
 
 abbrev pub edge_by : ℕ → List ℕ → Edge
 edge_by zero k = included k

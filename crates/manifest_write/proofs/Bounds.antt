@@ -1,5 +1,6 @@
 -- "Any lawful manifest writes to at most 65,536 bytes." Each record has a greatest number of bytes besides those of its keys, so what a
 -- manifest writes to is bounded by what it fills. Assumes nothing.
+use Rattle.std.specs.Prelude.{Err, None, Ok, Option, Some}
 use mathlib.Core.Path.{◌≡◌, refl, ap, ◌∙◌}
 use mathlib.Core.Bool.{Bool, true, false}
 use mathlib.Core.List.{List, [], ◌∷◌, ◌++◌, map}
@@ -9,12 +10,6 @@ use lib.ListN.{length, length-append}
 use Rattle.keys.proofs.Says.{says_true}
 use Rattle.keys.specs.Range.{Edge, unbounded, included, excluded}
 use Rattle.ids.specs.declared.SstId.{SstId}
-use Rattle.ids.specs.declared.ViewMark.{ViewMark}
-use Rattle.ids.specs.declared.ViewMark.TheVariants as view_marks
-use Rattle.ids.specs.declared.SstMark.{SstMark}
-use Rattle.ids.specs.declared.SstMark.TheVariants as sst_marks
-use Rattle.ids.specs.declared.Final.{Final}
-use Rattle.ids.specs.declared.Final.TheVariants as final
 use Rattle.records.specs.Model.{LastKey, unknown, known, Seen, all, only, View, Run, Tree, Segment, Borrow, Extractor, none, named, Manifest}
 use Rattle.records.specs.Fill.{fits, ids, sum, key_fill, edge_keys, last_keys, seen_keys, view_fill, run_fill, tree_fill, segment_fill, borrow_fill, name_keys, manifest_fill}
 use Rattle.records.specs.Limits.{limits01}
@@ -27,12 +22,13 @@ use Rattle.measure.specs.Within.{within}
 use Rattle.measure.specs.Measure.{l1_of}
 use Rattle.measure.proofs.Fits.{says_fits}
 use Rattle.lawful.specs.Judge.{judged_of}
-use Rattle.lawful.specs.declared.Judged.TheVariants.{Lawful, Breaks}
 use Rattle.msgpack_put.specs.Write.{uint_bytes, int_bytes, flag_bytes, array_bytes, bin_bytes, id_part, group_bytes, concat}
 use Rattle.msgpack_put.proofs.Puts.{flag_length}
 use Rattle.msgpack_put.proofs.Sizes.{array_size, id_size}
 use Rattle.manifest_write.specs.Bytes.{list_bytes, view_mark_bytes, sst_mark_bytes, final_bytes, sst_id_bytes, edge_bytes, seen_bytes, last_bytes, view_bytes, run_bytes, tree_bytes, segment_bytes, segments_bytes, borrow_bytes, name_bytes, manifest_bytes}
 use Rattle.manifest_write.proofs.Heads.{uint_most, int_most, array_most, bin_most}
+use Rattle.ids.specs.declared.ViewId.{ViewId}
+use Rattle.ids.specs.declared.Uuid.{Uuid}
 
 -- the most that some records write to, besides the heads of the lists that hold them
 abbrev pub most : Fill → ℕ
@@ -105,17 +101,17 @@ unfolding run_bytes run_fill
 run_most r =
     omega (arith, record_total (uint_bytes r.id ∷ list_bytes view_bytes r.views ∷ []) (omega arith), uint_most r.id, list_most view_bytes view_fill view_most r.views)
 
-view_mark_most : (x : ViewMark) → length (view_mark_bytes x) ≤ 18
-view_mark_most view_marks.None = omega arith
-view_mark_most (view_marks.Some x) = omega (arith, id_size x.0 x.1)
+view_mark_most : (x : Option ViewId) → length (view_mark_bytes x) ≤ 18
+view_mark_most None = omega arith
+view_mark_most (Some x) = omega (arith, id_size x.0 x.1)
 
-sst_mark_most : (x : SstMark) → length (sst_mark_bytes x) ≤ 18
-sst_mark_most sst_marks.None = omega arith
-sst_mark_most (sst_marks.Some x) = omega (arith, id_size x.0 x.1)
+sst_mark_most : (x : Option SstId) → length (sst_mark_bytes x) ≤ 18
+sst_mark_most None = omega arith
+sst_mark_most (Some x) = omega (arith, id_size x.0 x.1)
 
-final_most : (x : Final) → length (final_bytes x) ≤ 18
-final_most final.None = omega arith
-final_most (final.Some x) = omega (arith, id_size x.0 x.1)
+final_most : (x : Option Uuid) → length (final_bytes x) ≤ 18
+final_most None = omega arith
+final_most (Some x) = omega (arith, id_size x.0 x.1)
 
 tree_most : (t : Tree) → length (tree_bytes t) ≤ 47 + most (tree_fill t)
 unfolding tree_bytes tree_fill
@@ -197,15 +193,15 @@ within_fits lim m h = go (fits (manifest_fill m) lim.fill) refl
     go true e = refl
     go false e = rw e at h
 
-lawful_within : (lim : Limits) (l : Lent) (m : ManifestRow) → Lawful ≡ judged_of lim l m → within lim (manifest_in l m) ≡ true
+lawful_within : (lim : Limits) (l : Lent) (m : ManifestRow) → Ok tt ≡ judged_of lim l m → within lim (manifest_in l m) ≡ true
 unfolding judged_of l1_of
 lawful_within lim l m h = go (placed l m) (within lim (manifest_in l m)) refl refl
   where
     go : (a b : Bool) → placed l m ≡ a → within lim (manifest_in l m) ≡ b → b ≡ true
     go true true e f = refl
-    go true false e f = let k : Lawful ≡ Breaks 1 = rw (e, f) at h in let z : ◌≡◌ {A = ℕ} 0 1 = cc in absurd (omega arith)
-    go false b e f = let k : Lawful ≡ Breaks 1 = rw e at h in let z : ◌≡◌ {A = ℕ} 0 1 = cc in absurd (omega arith)
+    go true false e f = let k : Ok tt ≡ Err 1 = rw (e, f) at h in let z : ◌≡◌ {A = ℕ} 0 1 = cc in absurd (omega arith)
+    go false b e f = let k : Ok tt ≡ Err 1 = rw e at h in let z : ◌≡◌ {A = ℕ} 0 1 = cc in absurd (omega arith)
 
 -- "Any lawful manifest writes to at most 65,536 bytes."
-pub lawful_most : (l : Lent) (m : ManifestRow) → Lawful ≡ judged_of limits01 l m → length (manifest_bytes (manifest_in l m)) ≤ 65_536
+pub lawful_most : (l : Lent) (m : ManifestRow) → Ok tt ≡ judged_of limits01 l m → length (manifest_bytes (manifest_in l m)) ≤ 65_536
 lawful_most l m h = fitting_most (manifest_in l m) (within_fits limits01 (manifest_in l m) (lawful_within limits01 l m h))

@@ -1,5 +1,5 @@
 -- What writing answers, and what the lent slice then holds.
-use Rattle.std.specs.Prelude.{ℕ, List, [], ◌∷◌, ltb, length}
+use Rattle.std.specs.Prelude.{ℕ, List, [], ◌∷◌, ltb, length, Err, Ok, Result}
 use Rattle.keys.specs.Pick.{pick}
 use Rattle.tables.specs.Layout.{over}
 use Rattle.records.specs.Decode.{Lent, manifest_in}
@@ -8,15 +8,12 @@ use Rattle.records.specs.declared.Refusal.TheVariants.{Unlawful, NoRoom}
 use Rattle.records.specs.declared.Limits.{Limits}
 use Rattle.records.specs.declared.ManifestRow.{ManifestRow}
 use Rattle.lawful.specs.Judge.{judged_of}
-use Rattle.lawful.specs.declared.Judged.{Judged}
-use Rattle.lawful.specs.declared.Judged.TheVariants.{Lawful, Breaks}
 use Rattle.manifest_write.specs.Bytes.{manifest_bytes}
-use Rattle.manifest_write.specs.declared.Written.{Written}
-use Rattle.manifest_write.specs.declared.Written.TheVariants.{Done, Refused}
+use Rattle.records.specs.declared.Refusal.{Refusal}
 
 -- an answer, and what the lent slice holds
 pub record Outcome : Type 0 where
-  pub answer : Written
+  pub answer : Result ℕ Refusal
   pub out : List ℕ
 
 -- "a lent output is too short: fewer places (one a record or id) or bytes than the result fills": refusal 4, nothing changed; else
@@ -24,19 +21,19 @@ pub record Outcome : Type 0 where
 unfoldable pub put_of : List ℕ → List ℕ → Outcome
 put_of bs out =
     pick (ltb (length out) (length bs))
-    (record { answer = Refused NoRoom; out = out })
-    (record { answer = Done (length bs); out = over out bs })
+    (record { answer = Err NoRoom; out = out })
+    (record { answer = Ok (length bs); out = over out bs })
 
 -- "a manifest breaks L1..L5": refusal 1, nothing changed
-abbrev pub after_judged : Judged → List ℕ → List ℕ → Outcome
-after_judged (Breaks rule) bs out = record { answer = Refused (Unlawful rule); out = out }
-after_judged Lawful bs out = put_of bs out
+abbrev pub after_judged : Result Unit ℕ → List ℕ → List ℕ → Outcome
+after_judged (Err rule) bs out = record { answer = Err (Unlawful rule); out = out }
+after_judged (Ok _) bs out = put_of bs out
 
 -- a manifest that stands in lent tables, written
 unfoldable pub write_of : Limits → Lent → ManifestRow → List ℕ → Outcome
 write_of lim l m out = after_judged (judged_of lim l m) (manifest_bytes (manifest_in l m)) out
 
 -- the number and the values of each answer
-abbrev pub written : Written → List ℕ
-written (Done n) = 0 ∷ n ∷ []
-written (Refused r) = refusal r
+abbrev pub written : Result ℕ Refusal → List ℕ
+written (Ok n) = 0 ∷ n ∷ []
+written (Err r) = refusal r

@@ -1,32 +1,30 @@
 -- The bytes of a manifest: "Records are arrays in the order above; absent is nil; ids, keys, names and paths are bin; a visible
 -- range is [start, end], a bound nil, [0, key] included or [1, key] excluded."
-use Rattle.std.specs.Prelude.{ℕ, List, [], ◌∷◌, map}
+use Rattle.std.specs.Prelude.{ℕ, List, [], ◌∷◌, map, None, Option, Some}
 use Rattle.keys.specs.Range.{Edge, unbounded, included, excluded}
 use Rattle.ids.specs.declared.SstId.{SstId}
-use Rattle.ids.specs.declared.ViewMark.{ViewMark}
-use Rattle.ids.specs.declared.ViewMark.TheVariants as view_marks
-use Rattle.ids.specs.declared.SstMark.{SstMark}
-use Rattle.ids.specs.declared.SstMark.TheVariants as sst_marks
-use Rattle.ids.specs.declared.Final.{Final}
-use Rattle.ids.specs.declared.Final.TheVariants as final
 use Rattle.records.specs.Model.{LastKey, unknown, known, Seen, all, only, View, Run, Tree, Segment, Borrow, Extractor, none, named, Manifest}
 use Rattle.msgpack_put.specs.Write.{uint_bytes, int_bytes, flag_bytes, nil_bytes, bin_bytes, id_part, group_bytes}
+use Rattle.ids.specs.declared.ViewId.{ViewId}
+use Rattle.ids.specs.declared.Uuid.{Uuid}
 
 -- a list of records, each written in turn
 abbrev pub list_bytes : {A : Type 0} → (A → List ℕ) → List A → List ℕ
 list_bytes one xs = group_bytes (map one xs)
 
-abbrev pub view_mark_bytes : ViewMark → List ℕ
-view_mark_bytes view_marks.None = nil_bytes
-view_mark_bytes (view_marks.Some x) = id_part x.0 x.1
+-- an id or nil, whatever type holds the id: `halves` gives its two halves
+abbrev pub mark_bytes : {A : Type 0} → (A → ℕ × ℕ) → Option A → List ℕ
+mark_bytes halves None = nil_bytes
+mark_bytes halves (Some x) = id_part (halves x).0 (halves x).1
 
-abbrev pub sst_mark_bytes : SstMark → List ℕ
-sst_mark_bytes sst_marks.None = nil_bytes
-sst_mark_bytes (sst_marks.Some x) = id_part x.0 x.1
+abbrev pub view_mark_bytes : Option ViewId → List ℕ
+view_mark_bytes = mark_bytes λ x. (x.0, x.1)
 
-abbrev pub final_bytes : Final → List ℕ
-final_bytes final.None = nil_bytes
-final_bytes (final.Some x) = id_part x.0 x.1
+abbrev pub sst_mark_bytes : Option SstId → List ℕ
+sst_mark_bytes = mark_bytes λ x. (x.0, x.1)
+
+abbrev pub final_bytes : Option Uuid → List ℕ
+final_bytes = mark_bytes λ x. (x.0, x.1)
 
 abbrev pub sst_id_bytes : SstId → List ℕ
 sst_id_bytes x = id_part x.0 x.1

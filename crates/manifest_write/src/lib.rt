@@ -12,18 +12,12 @@ ghost use Rattle.manifest_write.specs.Bytes.{tree_bytes, segments_bytes, name_by
 ghost use Rattle.manifest_write.specs.Answer.{put_of, write_of};
 ghost use Rattle.manifest_write.specs.Wrote.{Wrote};
 
-use lawful::{Judged, lawful};
+use lawful::lawful;
+use msgpack_put::{Head, sign_of};
 use records::{Limits, ManifestRow, Refusal};
 use rows_put::{add_borrows, add_segments, add_tree};
 use tables::Window;
-use values_put::{add_array, add_flag, add_int, add_name, add_uint};
-
-// How many bytes were written, or why none were.
-#[derive(Clone, Copy)]
-pub enum Written {
-    Done(usize),
-    Refused(Refusal),
-}
+use values_put::{add_array, add_head, add_optional_bin};
 
 // ---- the manifest
 
@@ -39,24 +33,21 @@ fn add_front(
 ) -> usize
     ensures { Wrote out.old at (concat (flag_bytes m.initialized ∷ tree_bytes (tree_in runs.now views.now pool.now m.tree) ∷ segments_bytes (segments_in segments.now runs.now views.now pool.now m.segments) ∷ name_bytes (name_in pool.now m.segment_extractor_name) ∷ [])) result out.new }
 {
-    let tree = m.tree;
-    let w = m.segments;
-    let name = m.segment_extractor_name;
-    let p0 = add_flag(m.initialized, out, at);
-    let p1 = add_tree(tree, runs, views, pool, out, p0);
-    let p2 = add_segments(segments, w, runs, views, pool, out, p1);
-    add_name(name, pool, out, p2)
+    let p0 = add_head(Head::Flag(m.initialized), out, at);
+    let p1 = add_tree(m.tree, runs, views, pool, out, p0);
+    let p2 = add_segments(segments, m.segments, runs, views, pool, out, p1);
+    add_optional_bin(m.segment_extractor_name, pool, out, p2)
 }
 
 // The five numbers after them.
 fn add_numbers(m: ManifestRow, out: &mut [u8], at: usize) -> usize
     ensures { Wrote out.old at (concat (uint_bytes m.next_wal_sst_id ∷ uint_bytes m.replay_after_wal_id ∷ int_bytes m.last_l0_clock_tick ∷ uint_bytes m.last_l0_seq ∷ uint_bytes m.recent_snapshot_min_seq ∷ [])) result out.new }
 {
-    let p0 = add_uint(m.next_wal_sst_id, out, at);
-    let p1 = add_uint(m.replay_after_wal_id, out, p0);
-    let p2 = add_int(m.last_l0_clock_tick, out, p1);
-    let p3 = add_uint(m.last_l0_seq, out, p2);
-    add_uint(m.recent_snapshot_min_seq, out, p3)
+    let p0 = add_head(Head::Uint(m.next_wal_sst_id), out, at);
+    let p1 = add_head(Head::Uint(m.replay_after_wal_id), out, p0);
+    let p2 = add_head(sign_of(m.last_l0_clock_tick), out, p1);
+    let p3 = add_head(Head::Uint(m.last_l0_seq), out, p2);
+    add_head(Head::Uint(m.recent_snapshot_min_seq), out, p3)
 }
 
 // inner
@@ -73,13 +64,12 @@ pub fn add_manifest(
 ) -> usize
     ensures { Wrote out.old at (manifest_bytes (manifest_in (record { segments = segments.now; views = views.now; runs = runs.now; borrows = borrows.now; ids = ids.now; pool = pool.now }) m)) result out.new }
 {
-    let w = m.external_dbs;
     let p0 = add_array(12, out, at);
     let p1 = add_front(m, segments, views, runs, pool, out, p0);
     let p2 = add_numbers(m, out, p1);
-    let p3 = add_borrows(borrows, w, ids, pool, out, p2);
-    let p4 = add_uint(m.writer_epoch, out, p3);
-    add_uint(m.compactor_epoch, out, p4)
+    let p3 = add_borrows(borrows, m.external_dbs, ids, pool, out, p2);
+    let p4 = add_head(Head::Uint(m.writer_epoch), out, p3);
+    add_head(Head::Uint(m.compactor_epoch), out, p4)
 }
 
 // ---- size, room, bytes
@@ -92,16 +82,16 @@ pub fn write_segments(
     pool: &[u8],
     w: Window,
     out: &mut [u8],
-) -> Written
+) -> Result<usize, Refusal>
     ensures { record { answer = result; out = out.new } ≡ put_of (segments_bytes (segments_in segments.now runs.now views.now pool.now w)) out.old }
 {
     let mut nowhere = [0u8; 1];
     let n = add_segments(segments, w, runs, views, pool, &mut nowhere, 0);
     if out.len() < n {
-        return Written::Refused(Refusal::NoRoom);
+        return Err(Refusal::NoRoom);
     }
     add_segments(segments, w, runs, views, pool, out, 0);
-    Written::Done(n)
+    Ok(n)
 }
 
 // A manifest that the caller has judged.
@@ -115,7 +105,7 @@ pub fn write_judged(
     pool: &[u8],
     m: ManifestRow,
     out: &mut [u8],
-) -> Written
+) -> Result<usize, Refusal>
     ensures { record { answer = result; out = out.new } ≡ put_of (manifest_bytes (manifest_in (record { segments = segments.now; views = views.now; runs = runs.now; borrows = borrows.now; ids = ids.now; pool = pool.now }) m)) out.old }
 {
     let mut nowhere = [0u8; 1];
@@ -131,13 +121,14 @@ pub fn write_judged(
         0,
     );
     if out.len() < n {
-        return Written::Refused(Refusal::NoRoom);
+        return Err(Refusal::NoRoom);
     }
     add_manifest(m, segments, views, runs, borrows, ids, pool, out, 0);
-    Written::Done(n)
+    Ok(n)
 }
 
 // A manifest: 1 with the first broken rule, then 4 where the slice is too short, nothing changed by either.
+#[tactic(auto, unfolding(crate::specs::Answer::write_of))]
 pub fn write(
     lim: Limits,
     segments: &[u64],
@@ -148,11 +139,9 @@ pub fn write(
     pool: &[u8],
     m: ManifestRow,
     out: &mut [u8],
-) -> Written
+) -> Result<usize, Refusal>
     ensures { record { answer = result; out = out.new } ≡ write_of lim (record { segments = segments.now; views = views.now; runs = runs.now; borrows = borrows.now; ids = ids.now; pool = pool.now }) m out.old }
 {
-    match lawful(lim, segments, views, runs, borrows, ids, pool, m) {
-        Judged::Breaks(rule) => Written::Refused(Refusal::Unlawful(rule)),
-        Judged::Lawful => write_judged(segments, views, runs, borrows, ids, pool, m, out),
-    }
+    lawful(lim, segments, views, runs, borrows, ids, pool, m).map_err(Refusal::Unlawful)?;
+    write_judged(segments, views, runs, borrows, ids, pool, m, out)
 }

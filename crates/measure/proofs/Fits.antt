@@ -1,4 +1,5 @@
 -- What it is to fit, number by number. Assumes nothing.
+use Rattle.std.specs.Prelude.{None, Some}
 use Prim.Native.Nat.{◌≤◌}
 use mathlib.Core.Path.{◌≡◌, sym, ◌∙◌}
 use mathlib.Core.Bool.{Bool, true, false}
@@ -9,7 +10,6 @@ use Rattle.keys.proofs.Says.{says_and, says_iff, says_le, says_same, says_true, 
 use Rattle.records.specs.Fill.{plus, fits}
 use Rattle.records.specs.declared.Fill.{Fill}
 use Rattle.measure.specs.Walk.{left_of, add_of}
-use Rattle.measure.specs.declared.Measured.TheVariants.{Broken, Fills}
 
 pub record Under (a most : Fill) : Type 0 where
   pub segments : a.segments ≤ most.segments
@@ -73,7 +73,7 @@ module _ (most c more : Fill) where
       (says_fits more (left_of most c))
       (says_fits (plus c more) most)
 
-  pub add_over : (r : Bool) → r ≡ fits c most → r ≡ false → Broken ≡ add_of most c more
+  pub add_over : (r : Bool) → r ≡ fits c most → r ≡ false → None ≡ add_of most c more
   unfolding add_of
   add_over r e h = rw (fits_part c more most (sym e ∙ h))
 
@@ -87,10 +87,10 @@ module _ (most c more : Fill) where
     pub sum_is : r ≡ true → fits (plus c more) most ≡ true
     sum_is h = sum_fits ∙ h
 
-    pub add_past : r ≡ false → Broken ≡ add_of most c more
+    pub add_past : r ≡ false → None ≡ add_of most c more
     unfolding add_of
     add_past h = rw (sum_fits ∙ h)
 
-    pub add_done : (s : Fill) → r ≡ true → s ≡ plus c more → Fills s ≡ add_of most c more
+    pub add_done : (s : Fill) → r ≡ true → s ≡ plus c more → Some s ≡ add_of most c more
     unfolding add_of
     add_done s h k = rw (sum_fits ∙ h, k)

@@ -1,3 +1,4 @@
+pub mod Exits
 pub mod Fits
 pub mod Walks
 pub mod Layouts

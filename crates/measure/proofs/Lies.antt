@@ -1,4 +1,5 @@
 -- What stands in a table from a cursor on, with room for it; and tests of row after row. Assumes nothing.
+use Rattle.std.specs.Prelude.{None, Option, Some}
 use Prim.Native.Nat.{ℕ, zero, suc, ◌+◌, ◌*◌, ◌/◌, ◌≤◌, ◌<◌}
 use mathlib.Core.Path.{◌≡◌, refl, sym, ap, ◌∙◌}
 use mathlib.Core.Bool.{Bool, true, false, ◌&&◌, true≢false}
@@ -7,12 +8,6 @@ use native.Mathlib.Omega.{arith}
 use native.Mathlib.Nat.{add-zero, add-suc, suc-add, le-div_iff_mul-le}
 use borrow.Author.Tests.{le-leb}
 use lib.ListN.{length}
-use Rattle.ids.specs.declared.ViewMark.{ViewMark}
-use Rattle.ids.specs.declared.ViewMark.TheVariants as view_marks
-use Rattle.ids.specs.declared.SstMark.{SstMark}
-use Rattle.ids.specs.declared.SstMark.TheVariants as sst_marks
-use Rattle.ids.specs.declared.Final.{Final}
-use Rattle.ids.specs.declared.Final.TheVariants as final
 use Rattle.tables.specs.Window.{lies_in}
 use Rattle.tables.proofs.Holds.{Holds, holds_first, holds_rest, holds_place, up_to_front}
 use Rattle.records.specs.Words.{view_mark_cell, sst_mark_cell, final_cell}
@@ -23,6 +18,9 @@ use Rattle.records.proofs.Sums.{plus_assoc}
 use Rattle.measure.specs.Tests.{all_of, all_below}
 use Rattle.measure.specs.Placed.{opened}
 use Rattle.measure.proofs.Lists.{all_up_to}
+use Rattle.ids.specs.declared.ViewId.{ViewId}
+use Rattle.ids.specs.declared.SstId.{SstId}
+use Rattle.ids.specs.declared.Uuid.{Uuid}
 
 pub both : (a b : Bool) → a ≡ true → b ≡ true → (a && b) ≡ true
 both a b e f = rw (e, f)
@@ -90,17 +88,17 @@ pub window_in : (first n w long : ℕ) → 0 < w → (first + n) * w ≤ long �
 window_in first n w long p h = le-leb (first + n) (long / w) ((le-div_iff_mul-le p).1 h)
 
 -- a cell's code is 0 or 1
-pub view_mark_opens : (m : ViewMark) → opened (view_mark_cell m).code true ≡ true
-view_mark_opens view_marks.None = refl
-view_mark_opens (view_marks.Some x) = refl
+pub view_mark_opens : (m : Option ViewId) → opened (view_mark_cell m).code true ≡ true
+view_mark_opens None = refl
+view_mark_opens (Some x) = refl
 
-pub sst_mark_opens : (m : SstMark) → opened (sst_mark_cell m).code true ≡ true
-sst_mark_opens sst_marks.None = refl
-sst_mark_opens (sst_marks.Some x) = refl
+pub sst_mark_opens : (m : Option SstId) → opened (sst_mark_cell m).code true ≡ true
+sst_mark_opens None = refl
+sst_mark_opens (Some x) = refl
 
-pub final_opens : (f : Final) → opened (final_cell f).code true ≡ true
-final_opens final.None = refl
-final_opens (final.Some x) = refl
+pub final_opens : (f : Option Uuid) → opened (final_cell f).code true ≡ true
+final_opens None = refl
+final_opens (Some x) = refl
 
 -- what each passes, and what it entails
 pub below_all : (p q : ℕ → Bool) → ((k : ℕ) → p k ≡ true → q k ≡ true) → (n : ℕ) → all_below p n ≡ true → all_below q n ≡ true

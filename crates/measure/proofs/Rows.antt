@@ -1,4 +1,5 @@
 -- What each record's part of the walk decides, in the words of the model. Assumes nothing.
+use Rattle.std.specs.Prelude.{None, Option, Some}
 use Prim.Native.Nat.{ℕ, zero, suc, ◌+◌, ◌*◌, ◌/◌, ◌^◌, ◌≤◌}
 use mathlib.Core.Path.{◌≡◌, refl, sym, ap, ◌∙◌}
 use mathlib.Core.Bool.{Bool, true, ◌&&◌}
@@ -21,16 +22,11 @@ use Rattle.records.specs.Decode.{bytes_in, last_in, seen_in, view_in, views_in, 
 use Rattle.records.specs.declared.Fill.{Fill}
 use Rattle.records.specs.declared.Limits.{Limits}
 use Rattle.records.specs.declared.Place.{Place}
-use Rattle.records.specs.declared.Last.TheVariants.{Unknown, Known}
-use Rattle.records.specs.declared.Visible.TheVariants.{All, Only}
-use Rattle.records.specs.declared.Name.{Name}
-use Rattle.records.specs.declared.Name.TheVariants.{Absent, Named}
 use Rattle.records.specs.declared.TreeRow.{TreeRow}
 use Rattle.measure.specs.Tests.{all_of}
 use Rattle.measure.specs.Within.{run_views, tree_views, short}
 use Rattle.measure.specs.Placed.{key_in, opened, bounded, bound_placed, last_placed, visible_placed, view_placed, views_placed, run_placed, runs_placed, tree_placed, segment_placed, segments_placed, borrow_placed, borrows_placed, name_placed}
 use Rattle.measure.specs.Walk.{then, key_walk, open_walk, code_walk, last_walk, bound_walk, bounds_walk, visible_walk, view_walk, views_walk, run_walk, runs_walk, tree_walk, segment_row_walk, segment_walk, segments_walk, borrow_row_walk, borrow_walk, borrows_walk, name_walk}
-use Rattle.measure.specs.declared.Measured.{Measured}
 use Rattle.records.proofs.Sums.{plus_empty, sum_append}
 use Rattle.measure.proofs.Lists.{and_true, and_assoc, all_append, all_joined, Unit}
 use Rattle.measure.proofs.Steps.{Step, step_none, step_never, step_then, step_as, step_guard, step_short, step_window, held, step_rows}
@@ -92,16 +88,16 @@ step_key most longest pool p =
 
 module _ (most : Fill) (longest : ℕ) where
   -- some byte strings
-  abbrev pub Keys : Bool → List (List ℕ) → (Fill → Measured) → Type 0
+  abbrev pub Keys : Bool → List (List ℕ) → (Fill → Option Fill) → Type 0
   Keys p ks f = Step most p (all_of (short longest) ks) (sum key_fill ks) f
 
-  keys_as : {p : Bool} {ks ls : List (List ℕ)} {f : Fill → Measured} → ks ≡ ls → Keys p ks f → Keys p ls f
+  keys_as : {p : Bool} {ks ls : List (List ℕ)} {f : Fill → Option Fill} → ks ≡ ls → Keys p ks f → Keys p ls f
   keys_as e a = rw e at a
 
   pub keys_one : (pool : List ℕ) (p : Place) → Keys (key_in (length pool) p) (bytes_in pool p ∷ []) (key_walk longest most (length pool) p)
   keys_one pool p = step_as (step_key most longest pool p) (λ e. sym (and_true (short longest (bytes_in pool p)))) (λ e. sym (plus_empty (key_fill (bytes_in pool p))))
 
-  pub keys_then : {p q : Bool} (ks ls : List (List ℕ)) {f e : Fill → Measured} → Keys p ks f → Keys q ls e → Keys (p && q) (ks ++ ls) (λ c. then (f c) e)
+  pub keys_then : {p q : Bool} (ks ls : List (List ℕ)) {f e : Fill → Option Fill} → Keys p ks f → Keys q ls e → Keys (p && q) (ks ++ ls) (λ c. then (f c) e)
   keys_then ks ls a b =
       step_as
       (step_then a b)
@@ -110,7 +106,7 @@ module _ (most : Fill) (longest : ℕ) where
 
 -- ---- a view
 module _ (lim : Limits) (pool : List ℕ) where
-  last_at_lem : (k : ℕ) (p : Place) → Keys lim.fill lim.key (opened k (key_in (length pool) p)) (last_keys (last_in pool (optional Unknown Known k p))) (open_walk k (key_walk lim.key lim.fill (length pool) p))
+  last_at_lem : (k : ℕ) (p : Place) → Keys lim.fill lim.key (opened k (key_in (length pool) p)) (last_keys (last_in pool (optional None Some k p))) (open_walk k (key_walk lim.key lim.fill (length pool) p))
   last_at_lem zero p = step_none
   last_at_lem (suc zero) p = keys_one lim.fill lim.key pool p
   last_at_lem (suc (suc k)) p = step_never
@@ -128,7 +124,7 @@ module _ (lim : Limits) (pool : List ℕ) where
         let e : b + 1 + 1 ≡ b + 2 = omega arith in
         keys_as lim.fill lim.key (ap (λ n. edge_keys (edge_of pool (bound_of (at t b) (at t (b + 1)) (at t n)))) e) (bound_at_lem (at t b) (at t (b + 1)) (at t (b + 1 + 1)))
 
-    visible_at_lem : (k b : ℕ) → Keys lim.fill lim.key (opened k (bound_placed (length pool) t (b + 1) && bound_placed (length pool) t (b + 4))) (seen_keys (seen_in pool (optional All Only k (record { start = bound_at t (b + 1); end = bound_at t (b + 4) })))) (open_walk k (bounds_walk lim t b (length pool)))
+    visible_at_lem : (k b : ℕ) → Keys lim.fill lim.key (opened k (bound_placed (length pool) t (b + 1) && bound_placed (length pool) t (b + 4))) (seen_keys (seen_in pool (optional None Some k (record { start = bound_at t (b + 1); end = bound_at t (b + 4) })))) (open_walk k (bounds_walk lim t b (length pool)))
     unfolding bounds_walk
     visible_at_lem zero b = step_none
     visible_at_lem (suc zero) b = keys_then lim.fill lim.key (edge_keys (edge_of pool (bound_at t (b + 1)))) (edge_keys (edge_of pool (bound_at t (b + 4)))) (bound_step (b + 1)) (bound_step (b + 4))
@@ -190,10 +186,10 @@ module _ (lim : Limits) (pool : List ℕ) where
       segments_step w = step_rows segments segments_unit (λ k. segment_in runs views pool (segment_at t (w.first + k))) (segment_short lim) segment_more w (length t / 12) (λ k. segment_step (w.first + k))
 
   -- ---- the name
-  pub name_step : (m : Name) → Keys lim.fill lim.name (name_placed (length pool) m) (name_keys (name_in pool m)) (name_walk lim (length pool) m)
+  pub name_step : (m : Option Place) → Keys lim.fill lim.name (name_placed (length pool) m) (name_keys (name_in pool m)) (name_walk lim (length pool) m)
   unfolding name_walk
-  name_step Absent = step_none
-  name_step (Named p) = keys_one lim.fill lim.name pool p
+  name_step None = step_none
+  name_step (Some p) = keys_one lim.fill lim.name pool p
 
   -- ---- borrows
   module _ (table t : List ℕ) where

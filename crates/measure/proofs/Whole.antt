@@ -1,4 +1,5 @@
 -- The walk over a whole manifest gives what L1 and the measure say. Assumes nothing.
+use Rattle.std.specs.Prelude.{None, Option, Some}
 use mathlib.Core.Path.{◌≡◌, refl, sym, ap, ◌∙◌}
 use mathlib.Core.Bool.{Bool, true, false, ◌&&◌}
 use mathlib.Core.List.{List, [], ◌∷◌}
@@ -18,8 +19,6 @@ use Rattle.measure.specs.Within.{tree_views, all_views, short, within}
 use Rattle.measure.specs.Placed.{tree_placed, segments_placed, name_placed, borrows_placed, placed}
 use Rattle.measure.specs.Measure.{l1_of, measured_of}
 use Rattle.measure.specs.Walk.{then, tree_walk, segments_walk, name_walk, borrows_walk, manifest_walk}
-use Rattle.measure.specs.declared.Measured.{Measured}
-use Rattle.measure.specs.declared.Measured.TheVariants.{Broken, Fills}
 use Rattle.measure.proofs.Fits.{says_fits}
 use Rattle.records.proofs.Sums.{empty_plus}
 use Rattle.measure.proofs.Lists.{and_false, and_true, and_assoc, and_comm, all_both, all_joined}
@@ -57,12 +56,12 @@ within_is lim m =
     ∙ shuffle t a w n p f
     ∙ ap (λ b. (((f && a) && n) && b) && p) (sym v)
 
-abbrev kept : Measured → Bool
-kept Broken = false
-kept (Fills c) = true
+abbrev kept : Option Fill → Bool
+kept None = false
+kept (Some c) = true
 
 module _ (lim : Limits) (l : Lent) (m : ManifestRow) where
-  abbrev from : Fill → Measured
+  abbrev from : Fill → Option Fill
   from c =
       then (tree_walk lim l.views l.runs (length l.pool) m.tree c)
       (λ d. then (segments_walk lim l.views l.runs l.segments (length l.pool) m.segments d)
@@ -94,25 +93,25 @@ module _ (lim : Limits) (l : Lent) (m : ManifestRow) where
       let s = manifest_short lim (manifest_in l m) in
       let z = true_says (says_fits empty most) (record { segments = omega arith; views = omega arith; runs = omega arith; borrows = omega arith; ids = omega arith; bytes = omega arith }) in
       manifest_step.gives empty z
-      ∙ ap (λ v. pick (placed l m && (s && fits v most)) (Fills v) Broken) (empty_plus g)
-      ∙ ap (λ b. pick (placed l m && b) (Fills g) Broken) (within_is lim (manifest_in l m))
+      ∙ ap (λ v. pick (placed l m && (s && fits v most)) (Some v) None) (empty_plus g)
+      ∙ ap (λ b. pick (placed l m && b) (Some g) None) (within_is lim (manifest_in l m))
 
-  pub measured_by : (r : Measured) → r ≡ manifest_walk lim l m → r ≡ measured_of lim l m
+  pub measured_by : (r : Option Fill) → r ≡ manifest_walk lim l m → r ≡ measured_of lim l m
   measured_by r e = e ∙ measured_is
 
-  module _ (r : Measured) (e : r ≡ measured_of lim l m) where
+  module _ (r : Option Fill) (e : r ≡ measured_of lim l m) where
     kept_is : kept r ≡ l1_of lim l m
     unfolding measured_of
     kept_is = ap kept e ∙ go (l1_of lim l m)
       where
-        go : (b : Bool) → kept (pick b (Fills (manifest_fill (manifest_in l m))) Broken) ≡ b
+        go : (b : Bool) → kept (pick b (Some (manifest_fill (manifest_in l m))) None) ≡ b
         go true = refl
         go false = refl
 
-    pub l1_broken : r ≡ Broken → false ≡ l1_of lim l m
+    pub l1_broken : r ≡ None → false ≡ l1_of lim l m
     l1_broken h = rw h at kept_is
 
-    pub l1_kept : (c : Fill) → r ≡ Fills c → true ≡ l1_of lim l m
+    pub l1_kept : (c : Fill) → r ≡ Some c → true ≡ l1_of lim l m
     l1_kept c h = rw h at kept_is
 
 pub ruleset l1s = (l1_broken, l1_kept)

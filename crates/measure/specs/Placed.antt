@@ -1,12 +1,10 @@
 -- "a record pointing outside its lent table or pool, or holding a code that stands for nothing, breaks L1".
-use Rattle.std.specs.Prelude.{ℕ, zero, suc, ◌+◌, ◌*◌, ◌/◌, ◌^◌, Bool, true, false, ◌&&◌, List, leb, ltb, length}
+use Rattle.std.specs.Prelude.{ℕ, zero, suc, ◌+◌, ◌*◌, ◌/◌, ◌^◌, Bool, true, false, ◌&&◌, List, leb, ltb, length, None, Option, Some}
 use Rattle.tables.specs.Window.{lies_in}
 use Rattle.tables.specs.declared.Window.{Window}
 use Rattle.records.specs.Row.{at, place_at, run_at, segment_at, borrow_at}
 use Rattle.records.specs.Decode.{Lent}
 use Rattle.records.specs.declared.Place.{Place}
-use Rattle.records.specs.declared.Name.{Name}
-use Rattle.records.specs.declared.Name.TheVariants.{Absent, Named}
 use Rattle.records.specs.declared.TreeRow.{TreeRow}
 use Rattle.records.specs.declared.ManifestRow.{ManifestRow}
 use Rattle.measure.specs.Tests.{all_below}
@@ -72,9 +70,9 @@ borrow_placed n ids borrows i =
 unfoldable pub borrows_placed : ℕ → List ℕ → List ℕ → Window → Bool
 borrows_placed n ids borrows w = lies_in w (length borrows / 9) && all_below (λ k. borrow_placed n ids borrows (w.first + k)) w.count
 
-abbrev pub name_placed : ℕ → Name → Bool
-name_placed n Absent = true
-name_placed n (Named p) = key_in n p
+abbrev pub name_placed : ℕ → Option Place → Bool
+name_placed n None = true
+name_placed n (Some p) = key_in n p
 
 -- every record of a manifest lies within the lent tables and pool, and every code stands for something
 unfoldable pub placed : Lent → ManifestRow → Bool

@@ -2,56 +2,57 @@
 ghost use Rattle.std.specs.Prelude.{◌≡◌, ◌+◌, ◌*◌, ◌/◌, ◌<◌, length};
 ghost use Rattle.measure.specs.Walk.{name_walk, borrow_row_walk, borrow_walk, borrows_walk};
 
-use crate::Measured;
 use crate::trees_walked::is_code;
 use crate::views_walked::{key_step, window_step};
-use records::{BorrowRow, Fill, Limits, Name, borrow_at};
+use records::{BorrowRow, Fill, Limits, Place, borrow_at};
 use tables::Window;
 
-pub fn name_step(lim: Limits, n: usize, name: Name, c: Fill) -> Measured
+pub fn name_step(lim: Limits, n: usize, name: Option<Place>, c: Fill) -> Option<Fill>
     ensures { result ≡ name_walk lim n name c }
 {
-    let most = lim.fill;
     match name {
-        Name::Absent => Measured::Fills(c),
-        Name::Named(p) => key_step(lim.name, most, n, p, c),
+        None => Some(c),
+        Some(p) => key_step(lim.name, lim.fill, n, p, c),
     }
 }
 
 // A borrow's ids are counted, not walked.
-fn borrow_row(lim: Limits, ids: &[u64], n: usize, r: BorrowRow, c: Fill) -> Measured
+#[tactic(auto, using(crate::proofs::Walks::thens), unfolding(crate::specs::Walk::borrow_row_walk))]
+fn borrow_row(lim: Limits, ids: &[u64], n: usize, r: BorrowRow, c: Fill) -> Option<Fill>
     ensures { result ≡ borrow_row_walk lim ids.now n r c }
 {
-    let most = lim.fill;
-    let path = r.path;
-    let s = key_step(lim.path, most, n, path, c);
-    let Measured::Fills(d) = s else {
-        return Measured::Broken;
-    };
-    let w = r.ids;
+    let d = key_step(lim.path, lim.fill, n, r.path, c)?;
     let more = Fill {
         segments: 0,
         views: 0,
         runs: 0,
         borrows: 0,
-        ids: w.count,
+        ids: r.ids.count,
         bytes: 0,
     };
-    window_step(most, ids.len() / 2, w, more, d)
+    window_step(lim.fill, ids.len() / 2, r.ids, more, d)
 }
 
-fn borrow_step(lim: Limits, ids: &[u64], borrows: &[u64], n: usize, i: usize, c: Fill) -> Measured
+fn borrow_step(
+    lim: Limits,
+    ids: &[u64],
+    borrows: &[u64],
+    n: usize,
+    i: usize,
+    c: Fill,
+) -> Option<Fill>
     requires { i < length borrows.now / 9 }
     ensures { result ≡ borrow_walk lim ids.now borrows.now n i c }
 {
     let b = i * 9;
     if !is_code(borrows[b + 4]) {
-        return Measured::Broken;
+        return None;
     }
     let r = borrow_at(borrows, i);
     borrow_row(lim, ids, n, r, c)
 }
 
+#[tactic(auto, using(crate::proofs::Walks::rows), unfolding(crate::specs::Walk::borrows_walk))]
 pub fn borrows_walk(
     lim: Limits,
     ids: &[u64],
@@ -59,10 +60,9 @@ pub fn borrows_walk(
     n: usize,
     w: Window,
     c: Fill,
-) -> Measured
+) -> Option<Fill>
     ensures { result ≡ borrows_walk lim ids.now borrows.now n w c }
 {
-    let most = lim.fill;
     let more = Fill {
         segments: 0,
         views: 0,
@@ -71,19 +71,9 @@ pub fn borrows_walk(
         ids: 0,
         bytes: 0,
     };
-    let s = window_step(most, borrows.len() / 9, w, more, c);
-    let Measured::Fills(start) = s else {
-        return Measured::Broken;
-    };
-    let mut d = start;
-    let mut k = 0;
-    while k < w.count {
-        let u = borrow_step(lim, ids, borrows, n, w.first + k, d);
-        let Measured::Fills(e) = u else {
-            return Measured::Broken;
-        };
-        d = e;
-        k += 1;
+    let mut d = window_step(lim.fill, borrows.len() / 9, w, more, c)?;
+    for k in 0..w.count {
+        d = borrow_step(lim, ids, borrows, n, w.first + k, d)?;
     }
-    Measured::Fills(d)
+    Some(d)
 }

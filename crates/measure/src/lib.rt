@@ -17,13 +17,6 @@ use records::{Fill, Limits, ManifestRow};
 pub use trees_walked::segment_row;
 use trees_walked::{segments_walk, tree_walk};
 
-// What a manifest fills, where it keeps L1. While walking: what the records so far fill.
-#[derive(Clone, Copy)]
-pub enum Measured {
-    Broken,
-    Fills(Fill),
-}
-
 // Whether each number of `a` is at most the other's.
 pub fn fits_in(a: Fill, most: Fill) -> bool
     ensures { result ≡ fits a most }
@@ -79,22 +72,23 @@ fn sum_of(most: Fill, a: Fill, b: Fill) -> Fill
 
 // `c` and `more` together, where they are at most `most`. No sum is made that could wrap.
 // inner
-pub fn add(most: Fill, c: Fill, more: Fill) -> Measured
+pub fn add(most: Fill, c: Fill, more: Fill) -> Option<Fill>
     ensures { result ≡ add_of most c more }
 {
     if !fits_in(c, most) {
-        return Measured::Broken;
+        return None;
     }
     let left = left_of(most, c);
     if !fits_in(more, left) {
-        return Measured::Broken;
+        return None;
     }
-    Measured::Fills(sum_of(most, c, more))
+    Some(sum_of(most, c, more))
 }
 
 // ---- a manifest
 
 // What the manifest fills, where it keeps L1.
+#[tactic(auto, using(crate::proofs::Walks::thens, crate::proofs::Whole::measured_by), unfolding(crate::specs::Walk::manifest_walk))]
 pub fn measure(
     lim: Limits,
     segments: &[u64],
@@ -104,11 +98,10 @@ pub fn measure(
     ids: &[u64],
     pool: &[u8],
     m: ManifestRow,
-) -> Measured
+) -> Option<Fill>
     ensures { result ≡ measured_of lim (record { segments = segments.now; views = views.now; runs = runs.now; borrows = borrows.now; ids = ids.now; pool = pool.now }) m }
 {
     let n = pool.len();
-    let t = m.tree;
     let none = Fill {
         segments: 0,
         views: 0,
@@ -117,25 +110,14 @@ pub fn measure(
         ids: 0,
         bytes: 0,
     };
-    let s = tree_walk(lim, views, runs, n, t, none);
-    let Measured::Fills(c) = s else {
-        return Measured::Broken;
-    };
-    let sw = m.segments;
-    let u = segments_walk(lim, views, runs, segments, n, sw, c);
-    let Measured::Fills(d) = u else {
-        return Measured::Broken;
-    };
-    let name = m.segment_extractor_name;
-    let v = name_step(lim, n, name, d);
-    let Measured::Fills(e) = v else {
-        return Measured::Broken;
-    };
-    let bw = m.external_dbs;
-    borrows_walk(lim, ids, borrows, n, bw, e)
+    let c = tree_walk(lim, views, runs, n, m.tree, none)?;
+    let d = segments_walk(lim, views, runs, segments, n, m.segments, c)?;
+    let e = name_step(lim, n, m.segment_extractor_name, d)?;
+    borrows_walk(lim, ids, borrows, n, m.external_dbs, e)
 }
 
 // Whether the manifest keeps L1.
+#[tactic(auto, using(crate::proofs::Whole::l1s))]
 pub fn l1(
     lim: Limits,
     segments: &[u64],
@@ -148,9 +130,5 @@ pub fn l1(
 ) -> bool
     ensures { result ≡ l1_of lim (record { segments = segments.now; views = views.now; runs = runs.now; borrows = borrows.now; ids = ids.now; pool = pool.now }) m }
 {
-    let r = measure(lim, segments, views, runs, borrows, ids, pool, m);
-    match r {
-        Measured::Broken => false,
-        Measured::Fills(_) => true,
-    }
+    measure(lim, segments, views, runs, borrows, ids, pool, m).is_some()
 }

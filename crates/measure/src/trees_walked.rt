@@ -3,27 +3,25 @@ ghost use Rattle.std.specs.Prelude.{◌≡◌, true, ◌+◌, ◌*◌, ◌/◌, 
 ghost use Rattle.measure.specs.Placed.{opened};
 ghost use Rattle.measure.specs.Walk.{run_walk, runs_walk, tree_walk, segment_row_walk, segment_walk, segments_walk};
 
-use crate::Measured;
 use crate::views_walked::{key_step, views_walk, window_step};
 use records::{Fill, Limits, SegmentRow, TreeRow, run_at, segment_at};
 use tables::Window;
 
-fn run_step(lim: Limits, views: &[u64], runs: &[u64], n: usize, i: usize, c: Fill) -> Measured
+fn run_step(lim: Limits, views: &[u64], runs: &[u64], n: usize, i: usize, c: Fill) -> Option<Fill>
     requires { i < length runs.now / 3 }
     ensures { result ≡ run_walk lim views.now runs.now n i c }
 {
     let r = run_at(runs, i);
     if 4294967296 <= r.id {
-        return Measured::Broken;
+        return None;
     }
-    let w = r.views;
-    views_walk(lim, views, n, w, c)
+    views_walk(lim, views, n, r.views, c)
 }
 
-fn runs_walk(lim: Limits, views: &[u64], runs: &[u64], n: usize, w: Window, c: Fill) -> Measured
+#[tactic(auto, using(crate::proofs::Walks::rows), unfolding(crate::specs::Walk::runs_walk))]
+fn runs_walk(lim: Limits, views: &[u64], runs: &[u64], n: usize, w: Window, c: Fill) -> Option<Fill>
     ensures { result ≡ runs_walk lim views.now runs.now n w c }
 {
-    let most = lim.fill;
     let more = Fill {
         segments: 0,
         views: 0,
@@ -32,23 +30,14 @@ fn runs_walk(lim: Limits, views: &[u64], runs: &[u64], n: usize, w: Window, c: F
         ids: 0,
         bytes: 0,
     };
-    let s = window_step(most, runs.len() / 3, w, more, c);
-    let Measured::Fills(start) = s else {
-        return Measured::Broken;
-    };
-    let mut d = start;
-    let mut k = 0;
-    while k < w.count {
-        let u = run_step(lim, views, runs, n, w.first + k, d);
-        let Measured::Fills(e) = u else {
-            return Measured::Broken;
-        };
-        d = e;
-        k += 1;
+    let mut d = window_step(lim.fill, runs.len() / 3, w, more, c)?;
+    for k in 0..w.count {
+        d = run_step(lim, views, runs, n, w.first + k, d)?;
     }
-    Measured::Fills(d)
+    Some(d)
 }
 
+#[tactic(auto, using(crate::proofs::Walks::thens), unfolding(crate::specs::Walk::tree_walk))]
 pub fn tree_walk(
     lim: Limits,
     views: &[u64],
@@ -56,16 +45,11 @@ pub fn tree_walk(
     n: usize,
     t: TreeRow,
     c: Fill,
-) -> Measured
+) -> Option<Fill>
     ensures { result ≡ tree_walk lim views.now runs.now n t c }
 {
-    let l0 = t.l0;
-    let compacted = t.compacted;
-    let s = views_walk(lim, views, n, l0, c);
-    let Measured::Fills(d) = s else {
-        return Measured::Broken;
-    };
-    runs_walk(lim, views, runs, n, compacted, d)
+    let d = views_walk(lim, views, n, t.l0, c)?;
+    runs_walk(lim, views, runs, n, t.compacted, d)
 }
 
 // Whether a code of something optional is one of the two.
@@ -77,6 +61,7 @@ pub fn is_code(x: u64) -> bool
 
 // A segment's prefix and tree, counted on from `c`.
 // inner
+#[tactic(auto, using(crate::proofs::Walks::thens), unfolding(crate::specs::Walk::segment_row_walk))]
 pub fn segment_row(
     lim: Limits,
     views: &[u64],
@@ -84,17 +69,11 @@ pub fn segment_row(
     n: usize,
     r: SegmentRow,
     c: Fill,
-) -> Measured
+) -> Option<Fill>
     ensures { result ≡ segment_row_walk lim views.now runs.now n r c }
 {
-    let most = lim.fill;
-    let prefix = r.prefix;
-    let s = key_step(lim.prefix, most, n, prefix, c);
-    let Measured::Fills(d) = s else {
-        return Measured::Broken;
-    };
-    let t = r.tree;
-    tree_walk(lim, views, runs, n, t, d)
+    let d = key_step(lim.prefix, lim.fill, n, r.prefix, c)?;
+    tree_walk(lim, views, runs, n, r.tree, d)
 }
 
 fn segment_step(
@@ -105,21 +84,22 @@ fn segment_step(
     n: usize,
     i: usize,
     c: Fill,
-) -> Measured
+) -> Option<Fill>
     requires { i < length segments.now / 12 }
     ensures { result ≡ segment_walk lim views.now runs.now segments.now n i c }
 {
     let b = i * 12;
     if !is_code(segments[b + 2]) {
-        return Measured::Broken;
+        return None;
     }
     if !is_code(segments[b + 5]) {
-        return Measured::Broken;
+        return None;
     }
     let r = segment_at(segments, i);
     segment_row(lim, views, runs, n, r, c)
 }
 
+#[tactic(auto, using(crate::proofs::Walks::rows), unfolding(crate::specs::Walk::segments_walk))]
 pub fn segments_walk(
     lim: Limits,
     views: &[u64],
@@ -128,10 +108,9 @@ pub fn segments_walk(
     n: usize,
     w: Window,
     c: Fill,
-) -> Measured
+) -> Option<Fill>
     ensures { result ≡ segments_walk lim views.now runs.now segments.now n w c }
 {
-    let most = lim.fill;
     let more = Fill {
         segments: w.count,
         views: 0,
@@ -140,19 +119,9 @@ pub fn segments_walk(
         ids: 0,
         bytes: 0,
     };
-    let s = window_step(most, segments.len() / 12, w, more, c);
-    let Measured::Fills(start) = s else {
-        return Measured::Broken;
-    };
-    let mut d = start;
-    let mut k = 0;
-    while k < w.count {
-        let u = segment_step(lim, views, runs, segments, n, w.first + k, d);
-        let Measured::Fills(e) = u else {
-            return Measured::Broken;
-        };
-        d = e;
-        k += 1;
+    let mut d = window_step(lim.fill, segments.len() / 12, w, more, c)?;
+    for k in 0..w.count {
+        d = segment_step(lim, views, runs, segments, n, w.first + k, d)?;
     }
-    Measured::Fills(d)
+    Some(d)
 }

@@ -1,4 +1,5 @@
 -- The loop that looks for data of the compactor's only. Assumes nothing.
+use Rattle.std.specs.Prelude.{None, Option, Some}
 use Prim.Native.Nat.{ℕ, suc, ◌+◌, ◌-◌, ◌/◌, ◌≤◌, ◌<◌}
 use mathlib.Core.Path.{◌≡◌, refl, sym, ap, ◌∙◌}
 use mathlib.Core.Bool.{Bool, true, false, not, ◌||◌}
@@ -9,7 +10,7 @@ use lib.ListN.{length, drop}
 use lib.Seq.{drop-drop}
 use Rattle.keys.specs.Pick.{pick}
 use Rattle.keys.specs.Key.{less_of}
-use Rattle.keys.specs.declared.Order.{Order}
+use Rattle.std.specs.declared.cmp.Ordering.{Ordering}
 use Rattle.keys.proofs.ByteOrder.{Stand, stand}
 use Rattle.tables.specs.Window.{held_of}
 use Rattle.tables.specs.declared.Window.{Window}
@@ -26,8 +27,6 @@ use Rattle.merge.specs.declared.MergeStep.{MergeStep}
 use Rattle.merge.specs.declared.MergeStep.TheVariants.{End, WriterOnly, CompactorOnly, Both}
 use Rattle.merge.specs.declared.Cursors.{Cursors}
 use Rattle.merge.specs.declared.Only.{Only}
-use Rattle.merge.specs.declared.Found.{Found}
-use Rattle.merge.specs.declared.Found.TheVariants.{Nowhere, At}
 use Rattle.merge.proofs.Ascending.{Above, Ascending, above_on, itself}
 use Rattle.merge.proofs.Prefixwise.{has_absent, only_past}
 use Rattle.merge.proofs.Onward.{empty_in}
@@ -63,15 +62,15 @@ module _ (j : ℕ) (ws : List Segment) (c : Segment) (cs : List Segment) where
   only_skip e = go (only_data ws c) e
     where
       go : (b : Bool) → b ≡ false
-          → pick (b || refuses6 ws cs) (At (j + pick (not b) (suc (place6 ws cs)) 0)) Nowhere ≡ pick (refuses6 ws cs) (At (j + 1 + place6 ws cs)) Nowhere
+          → pick (b || refuses6 ws cs) (Some (j + pick (not b) (suc (place6 ws cs)) 0)) None ≡ pick (refuses6 ws cs) (Some (j + 1 + place6 ws cs)) None
       go true e = let z : ◌≡◌ {A = ℕ} 0 1 = cc in absurd (omega arith)
-      go false e = let n : j + suc (place6 ws cs) ≡ j + 1 + place6 ws cs = omega arith in ap (λ k. pick (refuses6 ws cs) (At k) Nowhere) n
+      go false e = let n : j + suc (place6 ws cs) ≡ j + 1 + place6 ws cs = omega arith in ap (λ k. pick (refuses6 ws cs) (Some k) None) n
 
-  only_here : only_data ws c ≡ true → first_only j ws (c ∷ cs) ≡ At j
+  only_here : only_data ws c ≡ true → first_only j ws (c ∷ cs) ≡ Some j
   unfolding first_only
   only_here e = go (only_data ws c) e
     where
-      go : (b : Bool) → b ≡ true → pick (b || refuses6 ws cs) (At (j + pick (not b) (suc (place6 ws cs)) 0)) Nowhere ≡ At j
+      go : (b : Bool) → b ≡ true → pick (b || refuses6 ws cs) (Some (j + pick (not b) (suc (place6 ws cs)) 0)) None ≡ Some j
       go true e = rw (add-zero j)
       go false e = let z : ◌≡◌ {A = ℕ} 0 1 = cc in absurd (omega arith)
 
@@ -80,13 +79,13 @@ only_first : (j : ℕ) (w : Segment) (ws cs : List Segment) → Above w.prefix (
 unfolding first_only
 only_first j w ws cs a =
     let e = only_past w ws cs a in
-    ap (λ b. pick b (At (j + place6 (w ∷ ws) cs)) Nowhere) e.0 ∙ ap (λ k. pick (refuses6 ws cs) (At (j + k)) Nowhere) e.1
+    ap (λ b. pick b (Some (j + place6 (w ∷ ws) cs)) None) e.0 ∙ ap (λ k. pick (refuses6 ws cs) (Some (j + k)) None) e.1
 
 module _ (runs views pool : List ℕ) where
   abbrev pub Only-gives : ℕ → List SegmentRow → List SegmentRow → MergeStep → Type 0
   Only-gives j ws cs s =
       first_only j (segments_of runs views pool ws) (segments_of runs views pool cs)
-      ≡ pick (data_step views runs s) (At j) (first_only (j + compactor_taken s) (segments_of runs views pool (drop (writer_taken s) ws)) (segments_of runs views pool (drop (compactor_taken s) cs)))
+      ≡ pick (data_step views runs s) (Some j) (first_only (j + compactor_taken s) (segments_of runs views pool (drop (writer_taken s) ws)) (segments_of runs views pool (drop (compactor_taken s) cs)))
 
   first_only_lem : (j : ℕ) (w : SegmentRow) (ws cs : List SegmentRow) → Above (bytes_in pool w.prefix) (prefixes (segments_of runs views pool cs)) → Only-gives j (w ∷ ws) cs (WriterOnly w)
   unfolding segment_in
@@ -106,7 +105,7 @@ module _ (runs views pool : List ℕ) where
       alone b e = rw (has_absent (segments_of runs views pool ws) a, e)
 
       go : (b : Bool) → is_empty (tree_in runs views pool c.tree) ≡ b
-          → first_only j (segments_of runs views pool ws) (segment_in runs views pool c ∷ segments_of runs views pool cs) ≡ pick (not b) (At j) (first_only (j + 1) (segments_of runs views pool ws) (segments_of runs views pool cs))
+          → first_only j (segments_of runs views pool ws) (segment_in runs views pool c ∷ segments_of runs views pool cs) ≡ pick (not b) (Some j) (first_only (j + 1) (segments_of runs views pool ws) (segments_of runs views pool cs))
       go true e = only_skip j (segments_of runs views pool ws) (segment_in runs views pool c) (segments_of runs views pool cs) (alone true e)
       go false e = only_here j (segments_of runs views pool ws) (segment_in runs views pool c) (segments_of runs views pool cs) (alone false e)
 
@@ -117,17 +116,17 @@ module _ (runs views pool : List ℕ) where
   only_gives j [] (c ∷ cs) a b = second_only j c [] cs Above.none
   only_gives j (w ∷ ws) (c ∷ cs) (Ascending.more a _) (Ascending.more b _) = go (stand (bytes_in pool w.prefix) (bytes_in pool c.prefix))
     where
-      go : {o : Order} → Stand (bytes_in pool w.prefix) (bytes_in pool c.prefix) o → Only-gives j (w ∷ ws) (c ∷ cs) (step_by o w c)
+      go : {o : Ordering} → Stand (bytes_in pool w.prefix) (bytes_in pool c.prefix) o → Only-gives j (w ∷ ws) (c ∷ cs) (step_by o w c)
       go (Stand.less h) = first_only_lem j w ws (c ∷ cs) (Above.more h (above_on h b))
       go (Stand.same e) = both_only j w c ws cs e (rw e b)
       go (Stand.more h) = second_only j c (w ∷ ws) cs (Above.more h (above_on h a))
 
 -- ---- the loop
 module _ (segments runs views pool : List ℕ) (w c : Window) where
-  abbrev at : ℕ → ℕ → Found
+  abbrev at : ℕ → ℕ → Option ℕ
   at i j = first_only j (segments_of runs views pool (drop i (rows_in segments w))) (segments_of runs views pool (drop j (rows_in segments c)))
 
-  abbrev whole : Found
+  abbrev whole : Option ℕ
   whole = first_only 0 (segments_in segments runs views pool w) (segments_in segments runs views pool c)
 
   pub record Seeking (n m end i j : ℕ) : Type 0 where
@@ -141,7 +140,7 @@ module _ (segments runs views pool : List ℕ) (w c : Window) where
       record { ends = refl; between = between_none segments views runs pool w c n m d e f g; says = rw (segments_of_lem runs views pool segments w, segments_of_lem runs views pool segments c) }
 
   module _ (n m end i j : ℕ) (y : Seeking n m end i j) where
-    pub seeking_all : end ≤ i + j → Nowhere ≡ whole
+    pub seeking_all : end ≤ i + j → None ≡ whole
     unfolding first_only
     seeking_all h = (rw (rows_end segments c m j y.between.compactor (omega (arith, y.ends, y.between.i_within, y.between.j_within))) at y.says)
 
@@ -149,14 +148,14 @@ module _ (segments runs views pool : List ℕ) (w c : Window) where
       h' : i + j < n + m
       h' = omega (arith, y.ends)
 
-      onward : at i j ≡ pick t.alone (At j) (at t.i t.j)
+      onward : at i j ≡ pick t.alone (Some j) (at t.i t.j)
       unfolding only_of
       onward =
           let s = step_at segments pool w c i j in
           rw (e, ← drop-drop (writer_taken s) i (rows_in segments w), ← drop-drop (compactor_taken s) j (rows_in segments c))
           (only_gives runs views pool j (drop i (rows_in segments w)) (drop j (rows_in segments c)) (ascending_drop runs views pool i (rows_in segments w) y.between.w_ascends) (ascending_drop runs views pool j (rows_in segments c) y.between.c_ascends))
 
-      pub seeking_here : t.alone ≡ true → At j ≡ whole
+      pub seeking_here : t.alone ≡ true → Some j ≡ whole
       seeking_here b = sym (rw b at onward) ∙ y.says
 
       pub seeking_less : end - (t.i + t.j) < end - (i + j)

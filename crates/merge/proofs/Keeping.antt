@@ -1,4 +1,5 @@
 -- Rows that keep L1 by themselves: those of a lawful manifest do, and so does what is merged of them. Assumes nothing.
+use Rattle.std.specs.Prelude.{None, Option, Some}
 use Prim.Native.Nat.{ℕ, zero, suc, ◌+◌, ◌/◌, ◌≤◌}
 use mathlib.Core.Path.{◌≡◌, refl, sym, ◌∙◌}
 use mathlib.Core.Bool.{Bool, true, false, ◌&&◌}
@@ -10,8 +11,8 @@ use lib.ListN.{length, drop}
 use borrow.Author.Tests.{leb-true, le-leb}
 use Rattle.keys.specs.Pick.{pick}
 use Rattle.keys.specs.Key.{order_of}
-use Rattle.keys.specs.declared.Order.{Order}
-use Rattle.keys.specs.declared.Order.TheVariants.{Less, Equal, Greater}
+use Rattle.std.specs.declared.cmp.Ordering.{Ordering}
+use Rattle.std.specs.declared.cmp.Ordering.TheVariants.{Less, Equal, Greater}
 use Rattle.tables.specs.Layout.{joined}
 use Rattle.tables.specs.Window.{held_of}
 use Rattle.tables.specs.declared.Window.{Window}
@@ -35,8 +36,6 @@ use Rattle.merge.specs.declared.Side.{Side}
 use Rattle.merge.specs.declared.Side.TheVariants.{Writer, Compactor}
 use Rattle.merge.specs.declared.MergeStep.{MergeStep}
 use Rattle.merge.specs.declared.MergeStep.TheVariants.{End, WriterOnly, CompactorOnly, Both}
-use Rattle.merge.specs.declared.Keep.{Keep}
-use Rattle.merge.specs.declared.Keep.TheVariants.{Nothing, Kept}
 use Rattle.merge.proofs.Trees.{left_most, l0_merged}
 
 pub both_and : {a b : Bool} → a ≡ true → b ≡ true → (a && b) ≡ true
@@ -147,19 +146,19 @@ module _ (lim : Limits) (views runs pool : List ℕ) where
   step_kept (w ∷ ws) (c ∷ cs) a b =
       go (order_of (bytes_in pool w.prefix) (bytes_in pool c.prefix)) (and_both (row_kept lim views runs pool w) (all_of (row_kept lim views runs pool) ws) a).0 (and_both (row_kept lim views runs pool c) (all_of (row_kept lim views runs pool) cs) b).0
     where
-      go : (o : Order) → row_kept lim views runs pool w ≡ true → row_kept lim views runs pool c ≡ true → StepKept (step_by o w c)
+      go : (o : Ordering) → row_kept lim views runs pool w ≡ true → row_kept lim views runs pool c ≡ true → StepKept (step_by o w c)
       go Less x y = x
       go Equal x y = (x, y)
       go Greater x y = y
 
-  abbrev pub KeepKept : Keep → Type 0
-  KeepKept Nothing = Unit
-  KeepKept (Kept s) = row_kept lim views runs pool s ≡ true
+  abbrev pub KeepKept : Option SegmentRow → Type 0
+  KeepKept None = Unit
+  KeepKept (Some s) = row_kept lim views runs pool s ≡ true
 
   filled_keeps : (s : SegmentRow) → row_kept lim views runs pool s ≡ true → KeepKept (filled_keep views runs s)
   filled_keeps s a = go (empty_row views runs s.tree)
     where
-      go : (b : Bool) → KeepKept (pick b Nothing (Kept s))
+      go : (b : Bool) → KeepKept (pick b None (Some s))
       go true = tt
       go false = a
 

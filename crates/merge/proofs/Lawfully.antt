@@ -1,4 +1,5 @@
 -- What a lawful manifest's segment rows keep. Assumes nothing.
+use Rattle.std.specs.Prelude.{Ok}
 use Prim.Native.Nat.{ℕ, zero, suc, ◌+◌, ◌*◌, ◌/◌, ◌<◌}
 use mathlib.Core.Path.{◌≡◌, refl, sym, ap, ◌∙◌}
 use mathlib.Core.Bool.{Bool, true, false, ◌&&◌}
@@ -24,7 +25,6 @@ use Rattle.measure.specs.Measure.{l1_of}
 use Rattle.measure.proofs.Lists.{all_up_to}
 use Rattle.lawful.specs.Law.{l2_of}
 use Rattle.lawful.specs.Judge.{judged_of}
-use Rattle.lawful.specs.declared.Judged.TheVariants.{Lawful}
 use Rattle.lawful.proofs.Rules.{all_trees, segments_all}
 use Rattle.segments.specs.Prefixes.{prefixes_in}
 use Rattle.segments.proofs.Places.{and_both}
@@ -51,7 +51,7 @@ held_lies w rows k h = go (leb (w.first + w.count) rows) h
     go true h = h
     go false h = absurd (omega arith)
 
-module _ (lim : Limits) (l : Lent) (m : ManifestRow) (e : judged_of lim l m ≡ Lawful) where
+module _ (lim : Limits) (l : Lent) (m : ManifestRow) (e : judged_of lim l m ≡ Ok tt) where
   keeps : Keeps lim l m
   keeps = lawful_keeps lim l m e
 

@@ -1,4 +1,5 @@
 -- Segments laid one after the other, as many as a walk gives. Assumes nothing.
+use Rattle.std.specs.Prelude.{None, Option, Some}
 use Prim.Native.Nat.{ℕ, ◌+◌, ◌*◌, ◌≤◌}
 use mathlib.Core.Path.{◌≡◌, refl, sym, ap, ◌∙◌}
 use mathlib.Core.List.{List, [], ◌++◌, append-nil}
@@ -15,11 +16,9 @@ use Rattle.records.specs.declared.SegmentRow.{SegmentRow}
 use Rattle.records.proofs.Sums.{plus_empty, empty_plus, plus_assoc, sum_append}
 use Rattle.records.proofs.Laid.{Table, at, at_plus, at_empty, Column, column, column_long, laid_append}
 use Rattle.merge.specs.Steps.{keep_in}
-use Rattle.merge.specs.declared.Keep.{Keep}
-use Rattle.merge.specs.declared.Keep.TheVariants.{Nothing, Kept}
 
 -- ---- one segment, or none
-module _ (runs views pool : List ℕ) (keep : Keep) (c : Fill) where
+module _ (runs views pool : List ℕ) (keep : Option SegmentRow) (c : Fill) where
   -- the cursor and the four tables past what is kept
   abbrev pub KeptLaid : Fill → List ℕ → List ℕ → List ℕ → List ℕ → List ℕ → List ℕ → List ℕ → List ℕ → Type 0
   KeptLaid q s r v b s' r' v' b' =
@@ -28,12 +27,12 @@ module _ (runs views pool : List ℕ) (keep : Keep) (c : Fill) where
       × ((r' ≡ write r (c.runs * 3) (segments_runs_laid c (keep_in runs views pool keep)))
       × ((v' ≡ write v (c.views * 16) (segments_views_laid c (keep_in runs views pool keep))) × (b' ≡ write b c.bytes (joined segment_bytes (keep_in runs views pool keep))))))
 
-  pub kept_none : (s r v b : List ℕ) → keep ≡ Nothing → KeptLaid c s r v b s r v b
+  pub kept_none : (s r v b : List ℕ) → keep ≡ None → KeptLaid c s r v b s r v b
   unfolding segments_laid segments_runs_laid segments_views_laid
   kept_none s r v b e =
       rw e (sym (plus_empty c), (sym (write_none s (c.segments * 12)), (sym (write_none r (c.runs * 3)), (sym (write_none v (c.views * 16)), sym (write_none b c.bytes)))))
 
-  module _ (x : SegmentRow) (e : keep ≡ Kept x) where
+  module _ (x : SegmentRow) (e : keep ≡ Some x) where
     pub kept_room : (t : Table) (n : ℕ) → at t (plus c (sum segment_fill (keep_in runs views pool keep))) ≤ n → at t (plus c (segment_fill (segment_in runs views pool x))) ≤ n
     kept_room t n h = rw (ap (λ (f : Fill). at t (plus c f)) (plus_empty (segment_fill (segment_in runs views pool x)))) at (rw e at h)
 

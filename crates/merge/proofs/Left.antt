@@ -13,8 +13,8 @@ use mir.Syntax.{w64}
 use mir.Val.{Fits}
 use Rattle.keys.specs.Pick.{pick}
 use Rattle.keys.specs.Key.{less_of, order_of}
-use Rattle.keys.specs.declared.Order.{Order}
-use Rattle.keys.specs.declared.Order.TheVariants.{Less, Equal, Greater}
+use Rattle.std.specs.declared.cmp.Ordering.{Ordering}
+use Rattle.std.specs.declared.cmp.Ordering.TheVariants.{Less, Equal, Greater}
 use Rattle.tables.specs.Layout.{up_to}
 use Rattle.tables.specs.Window.{held_of}
 use Rattle.tables.specs.declared.Window.{Window}
@@ -138,7 +138,7 @@ module _ (segments views runs pool : List ℕ) (w c : Window) (n m i j : ℕ) (b
   abbrev pub Taken : MergeStep → Type 0
   Taken s = (i + writer_taken s ≤ n) × (j + compactor_taken s ≤ m) × (i + j < i + writer_taken s + (j + compactor_taken s))
 
-  taken_by : (o : Order) (x y : SegmentRow) → i < n → j < m → Taken (step_by o x y)
+  taken_by : (o : Ordering) (x y : SegmentRow) → i < n → j < m → Taken (step_by o x y)
   taken_by Less x y h l = (omega arith, omega arith, omega arith)
   taken_by Equal x y h l = (omega arith, omega arith, omega arith)
   taken_by Greater x y h l = (omega arith, omega arith, omega arith)

@@ -1,4 +1,5 @@
 -- The loop that measures the merged segments. Assumes nothing.
+use Rattle.std.specs.Prelude.{None, Option, Some}
 use Prim.Native.Nat.{ℕ, ◌+◌, ◌-◌, ◌/◌, ◌≤◌, ◌<◌}
 use mathlib.Core.Path.{◌≡◌, refl, sym, ap, ◌∙◌}
 use mathlib.Core.Bool.{Bool, true, false, ◌&&◌}
@@ -21,8 +22,6 @@ use Rattle.measure.specs.Tests.{all_of, chain}
 use Rattle.measure.specs.Within.{short}
 use Rattle.measure.specs.Placed.{key_in, tree_placed}
 use Rattle.measure.specs.Walk.{add_of, segment_row_walk}
-use Rattle.measure.specs.declared.Measured.{Measured}
-use Rattle.measure.specs.declared.Measured.TheVariants.{Broken, Fills}
 use Rattle.measure.proofs.Fits.{says_fits, fits_part}
 use Rattle.measure.proofs.Steps.{Step, step_then}
 use Rattle.measure.proofs.Rows.{step_key, tree_step, tree_short}
@@ -30,45 +29,43 @@ use Rattle.segments.specs.Prefixes.{prefixes_in}
 use Rattle.segments.proofs.Places.{and_both}
 use Rattle.merge.specs.Steps.{rows_in, step_at, keep_in, merged_from, next_of, row_kept, keep_walk, list_measured}
 use Rattle.merge.specs.declared.Side.{Side}
-use Rattle.merge.specs.declared.Keep.{Keep}
-use Rattle.merge.specs.declared.Keep.TheVariants.{Nothing, Kept}
 use Rattle.merge.specs.declared.Next.{Next}
 use Rattle.merge.proofs.Keeping.{KeepKept, keep_kept, step_kept, all_drop}
 use Rattle.merge.proofs.Left.{Between, between_none, left, left_all, left_end, next_between, next_less, next_left}
 
 -- ---- sums that are made where they fit
 module _ (most : Fill) where
-  add_none : (c : Fill) → fits c most ≡ true → Fills c ≡ add_of most c empty
+  add_none : (c : Fill) → fits c most ≡ true → Some c ≡ add_of most c empty
   unfolding add_of
   add_none c k = rw (plus_empty c, k)
 
   -- where a sum of the first part is made, it fits, and the rest is added to it
-  add_on : (c f g : Fill) (u : Measured) → u ≡ add_of most c f → (d : Fill) → u ≡ Fills d → (fits d most ≡ true) × (add_of most c (plus f g) ≡ add_of most d g)
+  add_on : (c f g : Fill) (u : Option Fill) → u ≡ add_of most c f → (d : Fill) → u ≡ Some d → (fits d most ≡ true) × (add_of most c (plus f g) ≡ add_of most d g)
   unfolding add_of
   add_on c f g u e d h = go (fits (plus c f) most) refl (sym e ∙ h)
     where
-      go : (b : Bool) → fits (plus c f) most ≡ b → pick b (Fills (plus c f)) Broken ≡ Fills d → (fits d most ≡ true) × (add_of most c (plus f g) ≡ add_of most d g)
-      go true k z = let w : plus c f ≡ d = cc in (rw (← w) k, ap (λ (z : Fill). pick (fits z most) (Fills z) Broken) (sym (plus_assoc c f g) ∙ ap (λ (x : Fill). plus x g) w))
+      go : (b : Bool) → fits (plus c f) most ≡ b → pick b (Some (plus c f)) None ≡ Some d → (fits d most ≡ true) × (add_of most c (plus f g) ≡ add_of most d g)
+      go true k z = let w : plus c f ≡ d = cc in (rw (← w) k, ap (λ (z : Fill). pick (fits z most) (Some z) None) (sym (plus_assoc c f g) ∙ ap (λ (x : Fill). plus x g) w))
       go false k z = let o : ◌≡◌ {A = ℕ} 0 1 = cc in absurd (omega arith)
 
-  add_broken : (c f g : Fill) (u : Measured) → u ≡ add_of most c f → u ≡ Broken → Broken ≡ add_of most c (plus f g)
+  add_broken : (c f g : Fill) (u : Option Fill) → u ≡ add_of most c f → u ≡ None → None ≡ add_of most c (plus f g)
   unfolding add_of
   add_broken c f g u e h = go (fits (plus c f) most) refl (sym e ∙ h)
     where
-      go : (b : Bool) → fits (plus c f) most ≡ b → pick b (Fills (plus c f)) Broken ≡ Broken → Broken ≡ add_of most c (plus f g)
+      go : (b : Bool) → fits (plus c f) most ≡ b → pick b (Some (plus c f)) None ≡ None → None ≡ add_of most c (plus f g)
       go true k z = let o : ◌≡◌ {A = ℕ} 0 1 = cc in absurd (omega arith)
-      go false k z = sym (ap (λ (z : Fill). pick (fits z most) (Fills z) Broken) (sym (plus_assoc c f g)) ∙ rw (fits_part (plus c f) g most k))
+      go false k z = sym (ap (λ (z : Fill). pick (fits z most) (Some z) None) (sym (plus_assoc c f g)) ∙ rw (fits_part (plus c f) g most k))
 
 -- ---- what the arms of the code know
-module _ (lim : Limits) (views runs : List ℕ) (n : ℕ) (keep : Keep) (c : Fill) where
-  pub fill_none : keep ≡ Nothing → Fills c ≡ keep_walk lim views runs n keep c
+module _ (lim : Limits) (views runs : List ℕ) (n : ℕ) (keep : Option SegmentRow) (c : Fill) where
+  pub fill_none : keep ≡ None → Some c ≡ keep_walk lim views runs n keep c
   fill_none e = rw e
 
-  module _ (s : SegmentRow) (u : Measured) (e : keep ≡ Kept s) (f : u ≡ add_of lim.fill c (segments 1)) where
-    pub fill_over : u ≡ Broken → Broken ≡ keep_walk lim views runs n keep c
+  module _ (s : SegmentRow) (u : Option Fill) (e : keep ≡ Some s) (f : u ≡ add_of lim.fill c (segments 1)) where
+    pub fill_over : u ≡ None → None ≡ keep_walk lim views runs n keep c
     fill_over h = rw (e, sym f ∙ h)
 
-    pub fill_on : (d : Fill) (r : Measured) → u ≡ Fills d → r ≡ segment_row_walk lim views runs n s d → r ≡ keep_walk lim views runs n keep c
+    pub fill_on : (d : Fill) (r : Option Fill) → u ≡ Some d → r ≡ segment_row_walk lim views runs n s d → r ≡ keep_walk lim views runs n keep c
     fill_on d r h g = rw (e, sym f ∙ h) g
 
 -- ---- what is kept, where its row keeps L1
@@ -79,14 +76,14 @@ module _ (lim : Limits) (views runs pool : List ℕ) where
 
   row_step : (s : SegmentRow)
       → Step lim.fill (key_in (length pool) s.prefix && tree_placed (length pool) views runs s.tree) (short lim.prefix (bytes_in pool s.prefix) && tree_short lim (tree_in runs views pool s.tree))
-      (plus (segments 1) (plus (key_fill (bytes_in pool s.prefix)) (tree_fill (tree_in runs views pool s.tree)))) (keep_walk lim views runs (length pool) (Kept s))
+      (plus (segments 1) (plus (key_fill (bytes_in pool s.prefix)) (tree_fill (tree_in runs views pool s.tree)))) (keep_walk lim views runs (length pool) (Some s))
   unfolding segment_row_walk
   row_step s = step_then one_step (step_then (step_key lim.fill lim.prefix pool s.prefix) (tree_step lim pool views runs s.tree))
 
-  kept_adds : (keep : Keep) → KeepKept lim views runs pool keep → (c : Fill) → fits c lim.fill ≡ true → keep_walk lim views runs (length pool) keep c ≡ add_of lim.fill c (sum segment_fill (keep_in runs views pool keep))
+  kept_adds : (keep : Option SegmentRow) → KeepKept lim views runs pool keep → (c : Fill) → fits c lim.fill ≡ true → keep_walk lim views runs (length pool) keep c ≡ add_of lim.fill c (sum segment_fill (keep_in runs views pool keep))
   unfolding row_kept add_of segment_fill segment_in
-  kept_adds Nothing h c k = add_none lim.fill c k
-  kept_adds (Kept s) h c k =
+  kept_adds None h c k = add_none lim.fill c k
+  kept_adds (Some s) h c k =
       let p = key_in (length pool) s.prefix && tree_placed (length pool) views runs s.tree in
       let q = short lim.prefix (bytes_in pool s.prefix) && tree_short lim (tree_in runs views pool s.tree) in
       let a = and_both p q h in
@@ -118,14 +115,14 @@ module _ (side : Side) (lim : Limits) (segments runs views pool : List ℕ) (w c
         w_kept = h;
         c_kept = k;
         within = true_says (says_fits empty lim.fill) (record { segments = omega arith; views = omega arith; runs = omega arith; borrows = omega arith; ids = omega arith; bytes = omega arith });
-        says = ap (λ (z : Fill). pick (fits z lim.fill) (Fills z) Broken) (empty_plus (sum segment_fill (left side segments views runs pool w c 0 0)) ∙ ap (sum segment_fill) (left_all side segments views runs pool w c));
+        says = ap (λ (z : Fill). pick (fits z lim.fill) (Some z) None) (empty_plus (sum segment_fill (left side segments views runs pool w c 0 0)) ∙ ap (sum segment_fill) (left_all side segments views runs pool w c));
       }
 
   module _ (n m end i j : ℕ) (to : Fill) (y : Measuring n m end i j to) where
     abbrev rest : ℕ → ℕ → List Segment
     rest k l = left side segments views runs pool w c k l
 
-    pub measuring_all : end ≤ i + j → Fills to ≡ list_measured lim all
+    pub measuring_all : end ≤ i + j → Some to ≡ list_measured lim all
     measuring_all h =
         let z : rest i j ≡ [] = left_end segments views runs pool w c n m i j y.between side (omega (arith, y.ends)) in
         add_none lim.fill to y.within ∙ (rw z at y.says)
@@ -145,7 +142,7 @@ module _ (side : Side) (lim : Limits) (segments runs views pool : List ℕ) (w c
           ap (add_of lim.fill to) (sym (sum_append segment_fill kept (rest t.i t.j)) ∙ ap (sum segment_fill) (sym (next_left segments views runs pool w c n m i j y.between side t e h')))
           ∙ y.says
 
-      module _ (u : Measured) (f : u ≡ keep_walk lim views runs (length pool) t.keep to) where
+      module _ (u : Option Fill) (f : u ≡ keep_walk lim views runs (length pool) t.keep to) where
         adds : u ≡ add_of lim.fill to (sum segment_fill kept)
         unfolding next_of
         adds =
@@ -154,10 +151,10 @@ module _ (side : Side) (lim : Limits) (segments runs views pool : List ℕ) (w c
             (rw e (keep_kept lim views runs pool side (step_at segments pool w c i j) (step_kept lim views runs pool (drop i (rows_in segments w)) (drop j (rows_in segments c)) (all_drop (row_kept lim views runs pool) i (rows_in segments w) y.w_kept) (all_drop (row_kept lim views runs pool) j (rows_in segments c) y.c_kept))))
             to y.within
 
-        pub measuring_broken : u ≡ Broken → Broken ≡ list_measured lim all
+        pub measuring_broken : u ≡ None → None ≡ list_measured lim all
         measuring_broken b = add_broken lim.fill to (sum segment_fill kept) (sum segment_fill (rest t.i t.j)) u adds b ∙ sums
 
-        pub measuring_more : (d : Fill) → u ≡ Fills d → Measuring n m end t.i t.j d
+        pub measuring_more : (d : Fill) → u ≡ Some d → Measuring n m end t.i t.j d
         measuring_more d b =
             let a = add_on lim.fill to (sum segment_fill kept) (sum segment_fill (rest t.i t.j)) u adds d b in
             record {

@@ -1,4 +1,5 @@
 -- The loop that looks for kept prefixes that nest. Assumes nothing.
+use Rattle.std.specs.Prelude.{None, Option, Some}
 use Prim.Native.Nat.{ℕ, suc, ◌+◌, ◌-◌, ◌/◌, ◌^◌, ◌≤◌, ◌<◌}
 use mathlib.Core.Path.{◌≡◌, refl, sym, ap, ◌∙◌}
 use mathlib.Core.Bool.{Bool, true, false}
@@ -21,21 +22,17 @@ use Rattle.merge.specs.Merge.{nests, nests_at, from_compactor}
 use Rattle.merge.specs.Steps.{keep_in, next_of}
 use Rattle.merge.specs.Finds.{first_nest, nest_in, nest_step, nest_count, nest_found}
 use Rattle.merge.specs.declared.Side.TheVariants.{Compactor}
-use Rattle.merge.specs.declared.Keep.{Keep}
-use Rattle.merge.specs.declared.Keep.TheVariants.{Nothing, Kept}
 use Rattle.merge.specs.declared.Next.{Next}
-use Rattle.merge.specs.declared.Found.{Found}
-use Rattle.merge.specs.declared.Found.TheVariants as found
 use Rattle.merge.specs.declared.Nest.{Nest}
 use Rattle.merge.specs.declared.Nest.TheVariants.{Clear, Last, At}
 use Rattle.merge.proofs.Left.{Between, between_none, left, left_all, left_end, next_between, next_on, next_less, next_left}
 
 -- ---- what the arms of the code know
-module _ (pool : List ℕ) (n : Nest) (keep : Keep) where
-  pub nest_none : keep ≡ Nothing → n ≡ nest_step pool n keep
+module _ (pool : List ℕ) (n : Nest) (keep : Option SegmentRow) where
+  pub nest_none : keep ≡ None → n ≡ nest_step pool n keep
   nest_none e = rw e
 
-  module _ (s : SegmentRow) (e : keep ≡ Kept s) where
+  module _ (s : SegmentRow) (e : keep ≡ Some s) where
     pub nest_clear : n ≡ Clear → Last 0 s.prefix ≡ nest_step pool n keep
     nest_clear f = rw (e, f)
 
@@ -53,33 +50,33 @@ pub count_fits : (n : Nest) (k : ℕ) (p : Place) → nest_count n < 2 ^ 64 → 
 count_fits n k p h e = rw e at h
 
 module _ (n : Nest) where
-  pub found_clear : n ≡ Clear → found.Nowhere ≡ nest_found n
+  pub found_clear : n ≡ Clear → None ≡ nest_found n
   found_clear e = rw e
 
-  pub found_last : (k : ℕ) (p : Place) → n ≡ Last k p → found.Nowhere ≡ nest_found n
+  pub found_last : (k : ℕ) (p : Place) → n ≡ Last k p → None ≡ nest_found n
   found_last k p e = rw e
 
-  pub found_at : (k : ℕ) → n ≡ At k → found.At k ≡ nest_found n
+  pub found_at : (k : ℕ) → n ≡ At k → Some k ≡ nest_found n
   found_at k e = rw e
 
 pub ruleset founds = (found_clear, found_last, found_at)
 
 -- ---- one more that is kept, or none
-nest_two : (k : ℕ) (p q : List ℕ) (ps : List (List ℕ)) (b : Bool) → begins_of p q ≡ b → pick b (found.At k) (first_nest (k + 1) (q ∷ ps)) ≡ first_nest k (p ∷ q ∷ ps)
+nest_two : (k : ℕ) (p q : List ℕ) (ps : List (List ℕ)) (b : Bool) → begins_of p q ≡ b → pick b (Some k) (first_nest (k + 1) (q ∷ ps)) ≡ first_nest k (p ∷ q ∷ ps)
 unfolding first_nest nests nests_at
 nest_two k p q ps true e = rw (e, add-zero k)
 nest_two k p q ps false e = let n : k + suc (nests_at (q ∷ ps)) ≡ k + 1 + nests_at (q ∷ ps) = omega arith in rw (e, n)
 
-nest_more : (runs views pool : List ℕ) (n : Nest) (keep : Keep) (ss : List Segment) → nest_in pool (nest_step pool n keep) (prefixes ss) ≡ nest_in pool n (prefixes (keep_in runs views pool keep ++ ss))
+nest_more : (runs views pool : List ℕ) (n : Nest) (keep : Option SegmentRow) (ss : List Segment) → nest_in pool (nest_step pool n keep) (prefixes ss) ≡ nest_in pool n (prefixes (keep_in runs views pool keep ++ ss))
 unfolding segment_in
-nest_more runs views pool n Nothing ss = refl
-nest_more runs views pool Clear (Kept s) ss = refl
-nest_more runs views pool (Last k p) (Kept s) ss = go (begins_of (bytes_in pool p) (bytes_in pool s.prefix)) refl
+nest_more runs views pool n None ss = refl
+nest_more runs views pool Clear (Some s) ss = refl
+nest_more runs views pool (Last k p) (Some s) ss = go (begins_of (bytes_in pool p) (bytes_in pool s.prefix)) refl
   where
     go : (b : Bool) → begins_of (bytes_in pool p) (bytes_in pool s.prefix) ≡ b → nest_in pool (pick b (At k) (Last (k + 1) s.prefix)) (prefixes ss) ≡ first_nest k (bytes_in pool p ∷ bytes_in pool s.prefix ∷ prefixes ss)
     go true e = nest_two k (bytes_in pool p) (bytes_in pool s.prefix) (prefixes ss) true e
     go false e = nest_two k (bytes_in pool p) (bytes_in pool s.prefix) (prefixes ss) false e
-nest_more runs views pool (At k) (Kept s) ss = refl
+nest_more runs views pool (At k) (Some s) ss = refl
 
 nest_end : (pool : List ℕ) (n : Nest) → nest_found n ≡ nest_in pool n []
 unfolding first_nest nests
@@ -87,22 +84,22 @@ nest_end pool Clear = refl
 nest_end pool (Last k p) = refl
 nest_end pool (At k) = refl
 
-count_more : (pool : List ℕ) (n : Nest) (keep : Keep) → nest_count (nest_step pool n keep) ≤ nest_count n + 1
-count_more pool n Nothing = omega arith
-count_more pool Clear (Kept s) = omega arith
-count_more pool (Last k p) (Kept s) = go (begins_of (bytes_in pool p) (bytes_in pool s.prefix))
+count_more : (pool : List ℕ) (n : Nest) (keep : Option SegmentRow) → nest_count (nest_step pool n keep) ≤ nest_count n + 1
+count_more pool n None = omega arith
+count_more pool Clear (Some s) = omega arith
+count_more pool (Last k p) (Some s) = go (begins_of (bytes_in pool p) (bytes_in pool s.prefix))
   where
     go : (b : Bool) → nest_count (pick b (At k) (Last (k + 1) s.prefix)) ≤ k + 1 + 1
     go true = omega arith
     go false = omega arith
-count_more pool (At k) (Kept s) = omega arith
+count_more pool (At k) (Some s) = omega arith
 
 -- ---- the loop
 module _ (segments runs views pool : List ℕ) (w c : Window) where
   abbrev rest : ℕ → ℕ → List Segment
   rest i j = left Compactor segments views runs pool w c i j
 
-  abbrev whole : Found
+  abbrev whole : Option ℕ
   whole = first_nest 0 (prefixes (from_compactor (segments_in segments runs views pool w) (segments_in segments runs views pool c)))
 
   pub record Nesting (n m end i j : ℕ) (x : Nest) : Type 0 where
@@ -122,7 +119,7 @@ module _ (segments runs views pool : List ℕ) (w c : Window) where
       }
 
   module _ (n m end i j : ℕ) (x : Nest) (y : Nesting n m end i j x) where
-    pub nesting_all : (r : Found) → end ≤ i + j → r ≡ nest_found x → r ≡ whole
+    pub nesting_all : (r : Option ℕ) → end ≤ i + j → r ≡ nest_found x → r ≡ whole
     nesting_all r h e =
         let z : rest i j ≡ [] = left_end segments views runs pool w c n m i j y.between Compactor (omega (arith, y.ends)) in
         e ∙ nest_end pool x ∙ (rw z at y.says)

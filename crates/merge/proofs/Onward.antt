@@ -1,4 +1,5 @@
 -- A step over rows gives what the merge gives for the lowest prefix, and leaves the rest. Assumes nothing.
+use Rattle.std.specs.Prelude.{None, Some}
 use Prim.Native.Nat.{ℕ, zero, suc, ◌+◌, ◌/◌}
 use mathlib.Core.Path.{◌≡◌, refl, sym, ap, ◌∙◌}
 use mathlib.Core.Bool.{Bool, true, false}
@@ -8,7 +9,7 @@ use lib.Dec.{eqb, leb}
 use lib.ListN.{length, drop}
 use borrow.Author.Tests.{ne_eqb}
 use Rattle.keys.specs.Pick.{pick}
-use Rattle.keys.specs.declared.Order.{Order}
+use Rattle.std.specs.declared.cmp.Ordering.{Ordering}
 use Rattle.keys.proofs.ByteOrder.{Stand, stand}
 use Rattle.tables.specs.Layout.{up_to}
 use Rattle.tables.specs.Window.{held_of}
@@ -28,7 +29,6 @@ use Rattle.merge.specs.declared.Side.{Side}
 use Rattle.merge.specs.declared.Side.TheVariants.{Writer, Compactor}
 use Rattle.merge.specs.declared.MergeStep.{MergeStep}
 use Rattle.merge.specs.declared.MergeStep.TheVariants.{WriterOnly, CompactorOnly, Both}
-use Rattle.merge.specs.declared.Keep.TheVariants.{Nothing, Kept}
 use Rattle.merge.proofs.Ascending.{Above, Ascending, above_on}
 use Rattle.merge.proofs.Trees.{tree_merged}
 use Rattle.merge.proofs.Prefixwise.{segment_of, writer_first, writer_both, writer_skip, compactor_first, compactor_both, compactor_second}
@@ -60,7 +60,7 @@ module _ (runs views pool : List ℕ) where
   unfolding segment_in
   filled_in s = rw (empty_in s.tree) (go (is_empty (tree_in runs views pool s.tree)))
     where
-      go : (b : Bool) → keep_in runs views pool (pick b Nothing (Kept s)) ≡ pick b [] (segment_in runs views pool s ∷ [])
+      go : (b : Bool) → keep_in runs views pool (pick b None (Some s)) ≡ pick b [] (segment_in runs views pool s ∷ [])
       go true = refl
       go false = refl
 
@@ -105,7 +105,7 @@ module _ (runs views pool : List ℕ) where
   gives side [] (c ∷ cs) a (Ascending.more b _) = second_gives c [] cs Above.none b side
   gives side (w ∷ ws) (c ∷ cs) (Ascending.more a _) (Ascending.more b _) = go (stand (bytes_in pool w.prefix) (bytes_in pool c.prefix))
     where
-      go : {o : Order} → Stand (bytes_in pool w.prefix) (bytes_in pool c.prefix) o → Gives side (w ∷ ws) (c ∷ cs) (step_by o w c)
+      go : {o : Ordering} → Stand (bytes_in pool w.prefix) (bytes_in pool c.prefix) o → Gives side (w ∷ ws) (c ∷ cs) (step_by o w c)
       go (Stand.less h) = first_gives w ws (c ∷ cs) a (Above.more h (above_on h b)) side
       go (Stand.same e) = both_gives w c ws cs (sym e) a (rw e b) side
       go (Stand.more h) = second_gives c (w ∷ ws) cs (Above.more h (above_on h a)) b side

@@ -7,7 +7,7 @@ use native.Mathlib.Omega.{arith}
 use Rattle.keys.specs.Pick.{pick}
 use Rattle.keys.specs.Key.{Below, is_less, less_of, is_equal}
 use Rattle.keys.specs.Prefix.{Bytes, Begins, begins_of}
-use Rattle.keys.specs.declared.Order.{Order}
+use Rattle.std.specs.declared.cmp.Ordering.{Ordering}
 use Rattle.keys.proofs.Says.{says_not, true_says, says_false}
 use Rattle.keys.proofs.ByteOrder.{Stand, stand, below_trans, up, not_both}
 use Rattle.keys.proofs.Prefixes.{begins_up_to, begins_under, begins_between, up_to_under, says_begins}
@@ -35,7 +35,7 @@ among_ascends : (q : List ℕ) (ps : List (List ℕ)) → Ascending ps → Ascen
 among_ascends q [] a = Ascending.more Above.none Ascending.none
 among_ascends q (p ∷ ps) (Ascending.more a s) = go (stand q p) (among_ascends q ps s)
   where
-    go : {o : Order} → Stand q p o → Ascending (among q ps) → Ascending (pick (is_less o) (q ∷ p ∷ ps) (pick (is_equal o) (p ∷ ps) (p ∷ among q ps)))
+    go : {o : Ordering} → Stand q p o → Ascending (among q ps) → Ascending (pick (is_less o) (q ∷ p ∷ ps) (pick (is_equal o) (p ∷ ps) (p ∷ among q ps)))
     go (Stand.less h) i = Ascending.more (Above.more h (above_on h a)) (Ascending.more a s)
     go (Stand.same e) i = Ascending.more a s
     go (Stand.more h) i = Ascending.more (above_among ps h a) i
@@ -62,7 +62,7 @@ among_some : (f : List ℕ → Bool) (q : List ℕ) (ps : List (List ℕ)) → s
 among_some f q [] = refl
 among_some f q (p ∷ ps) = go (stand q p) (among_some f q ps)
   where
-    go : {o : Order} → Stand q p o → some_of f (among q ps) ≡ (f q || some_of f ps)
+    go : {o : Ordering} → Stand q p o → some_of f (among q ps) ≡ (f q || some_of f ps)
         → some_of f (pick (is_less o) (q ∷ p ∷ ps) (pick (is_equal o) (p ∷ ps) (p ∷ among q ps))) ≡ (f q || (f p || some_of f ps))
     go (Stand.less h) i = refl
     go (Stand.same e) i = rw e (or_once (f p) (some_of f ps))

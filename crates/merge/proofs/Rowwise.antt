@@ -1,4 +1,5 @@
 -- What the arms of a step know. Assumes nothing.
+use Rattle.std.specs.Prelude.{None, Option, Some}
 use Prim.Native.Nat.{ℕ, zero, suc, ◌+◌, ◌/◌, ◌≤◌, ◌<◌}
 use mathlib.Core.Path.{◌≡◌, sym, ◌∙◌}
 use mathlib.Core.Bool.{Bool, true, false}
@@ -9,8 +10,8 @@ use lib.Dec.{eqb}
 use lib.ListN.{length, drop, drop_of_length-le}
 use borrow.Author.Tests.{eq-eqb, ne_eqb}
 use Rattle.keys.specs.Key.{order_of}
-use Rattle.keys.specs.declared.Order.{Order}
-use Rattle.keys.specs.declared.Order.TheVariants.{Less, Equal, Greater}
+use Rattle.std.specs.declared.cmp.Ordering.{Ordering}
+use Rattle.std.specs.declared.cmp.Ordering.TheVariants.{Less, Equal, Greater}
 use Rattle.tables.specs.Layout.{up_to}
 use Rattle.tables.specs.Window.{held_of}
 use Rattle.tables.specs.declared.Window.{Window}
@@ -25,8 +26,6 @@ use Rattle.merge.specs.declared.Side.{Side}
 use Rattle.merge.specs.declared.Side.TheVariants.{Writer, Compactor}
 use Rattle.merge.specs.declared.MergeStep.{MergeStep}
 use Rattle.merge.specs.declared.MergeStep.TheVariants.{End, WriterOnly, CompactorOnly, Both}
-use Rattle.merge.specs.declared.Keep.{Keep}
-use Rattle.merge.specs.declared.Keep.TheVariants.{Nothing, Kept}
 use Rattle.merge.specs.declared.Cursors.{Cursors}
 
 -- ---- the rows that are left
@@ -43,7 +42,7 @@ module _ (segments : List ℕ) (w : Window) (n i : ℕ) (e : n ≡ held_of w (le
   rows_end h = drop_of_length-le (rows_in segments w) {i = i} (rw (up_to_length (λ k. segment_at segments (w.first + k)) (held_of w (length segments / 12)), ← e) h)
 
 -- ---- the next step
-module _ (pool : List ℕ) (w c : SegmentRow) (a b : List ℕ) (o : Order) (p : a ≡ bytes_in pool w.prefix) (q : b ≡ bytes_in pool c.prefix) (e : o ≡ order_of a b) where
+module _ (pool : List ℕ) (w c : SegmentRow) (a b : List ℕ) (o : Ordering) (p : a ≡ bytes_in pool w.prefix) (q : b ≡ bytes_in pool c.prefix) (e : o ≡ order_of a b) where
   pub step_less : o ≡ Less → WriterOnly w ≡ step_by (order_of (bytes_in pool w.prefix) (bytes_in pool c.prefix)) w c
   step_less h = rw (← p, ← q, sym e ∙ h)
 
@@ -105,47 +104,47 @@ module _ (views runs : List ℕ) (t : TreeRow) (n : ℕ) (e : n ≡ held_of t.l0
 pub ruleset empties = (empty_runs, empty_not)
 
 module _ (views runs : List ℕ) (s : SegmentRow) (r : Bool) (e : r ≡ empty_row views runs s.tree) where
-  pub filled_none : r ≡ true → Nothing ≡ filled_keep views runs s
+  pub filled_none : r ≡ true → None ≡ filled_keep views runs s
   filled_none h = rw (sym e ∙ h)
 
-  pub filled_kept : r ≡ false → Kept s ≡ filled_keep views runs s
+  pub filled_kept : r ≡ false → Some s ≡ filled_keep views runs s
   filled_kept h = rw (sym e ∙ h)
 
 pub ruleset fills = (filled_none, filled_kept)
 
 module _ (views runs : List ℕ) (s : MergeStep) where
-  pub keep_end : s ≡ End → Nothing ≡ writer_keep views s
+  pub keep_end : s ≡ End → None ≡ writer_keep views s
   keep_end e = rw e
 
-  pub keep_not : (c : SegmentRow) → s ≡ CompactorOnly c → Nothing ≡ writer_keep views s
+  pub keep_not : (c : SegmentRow) → s ≡ CompactorOnly c → None ≡ writer_keep views s
   keep_not c e = rw e
 
-  pub take_end : s ≡ End → Nothing ≡ compactor_keep views runs s
+  pub take_end : s ≡ End → None ≡ compactor_keep views runs s
   take_end e = rw e
 
   module _ (w : SegmentRow) (t : TreeRow) (r : SegmentRow) (e : s ≡ WriterOnly w) (n : t ≡ new_row) (h : r ≡ merged_row views w.prefix w.tree t) where
-    pub keep_writer : Kept r ≡ writer_keep views s
+    pub keep_writer : Some r ≡ writer_keep views s
     keep_writer = rw (e, h, n)
 
-    pub take_writer : (k : Keep) → k ≡ filled_keep views runs r → k ≡ compactor_keep views runs s
+    pub take_writer : (k : Option SegmentRow) → k ≡ filled_keep views runs r → k ≡ compactor_keep views runs s
     take_writer k f = rw e (rw (h, n) at f)
 
-  pub take_compactor : (c : SegmentRow) (t : TreeRow) (r : SegmentRow) (k : Keep) → s ≡ CompactorOnly c → t ≡ new_row → r ≡ merged_row views c.prefix t c.tree
+  pub take_compactor : (c : SegmentRow) (t : TreeRow) (r : SegmentRow) (k : Option SegmentRow) → s ≡ CompactorOnly c → t ≡ new_row → r ≡ merged_row views c.prefix t c.tree
       → k ≡ filled_keep views runs r → k ≡ compactor_keep views runs s
   take_compactor c t r k e n h f = rw e (rw (h, n) at f)
 
   module _ (w c r : SegmentRow) (e : s ≡ Both w c) (h : r ≡ merged_row views w.prefix w.tree c.tree) where
-    pub keep_both : Kept r ≡ writer_keep views s
+    pub keep_both : Some r ≡ writer_keep views s
     keep_both = rw (e, h)
 
-    pub take_both : (k : Keep) → k ≡ filled_keep views runs r → k ≡ compactor_keep views runs s
+    pub take_both : (k : Option SegmentRow) → k ≡ filled_keep views runs r → k ≡ compactor_keep views runs s
     take_both k f = rw e (rw h at f)
 
 pub ruleset keeps = (keep_end, keep_not, keep_writer, keep_both)
 
 pub ruleset takes = (take_end, take_writer, take_compactor, take_both)
 
-module _ (side : Side) (views runs : List ℕ) (s : MergeStep) (k : Keep) where
+module _ (side : Side) (views runs : List ℕ) (s : MergeStep) (k : Option SegmentRow) where
   pub by_writer : side ≡ Writer → k ≡ writer_keep views s → k ≡ keep_by side views runs s
   by_writer e h = rw e h
 
@@ -154,7 +153,7 @@ module _ (side : Side) (views runs : List ℕ) (s : MergeStep) (k : Keep) where
 
 pub ruleset sources = (by_writer, by_compactor)
 
-pub next_by : (side : Side) (segments views runs pool : List ℕ) (w c : Window) (i j : ℕ) (s : MergeStep) (k : Keep) (p : Cursors)
+pub next_by : (side : Side) (segments views runs pool : List ℕ) (w c : Window) (i j : ℕ) (s : MergeStep) (k : Option SegmentRow) (p : Cursors)
     → s ≡ step_at segments pool w c i j → k ≡ keep_by side views runs s → p ≡ record { i = i + writer_taken s; j = j + compactor_taken s }
     → record { keep = k; i = p.i; j = p.j } ≡ next_of side segments views runs pool w c i j
 unfolding next_of

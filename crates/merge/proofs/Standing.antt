@@ -1,4 +1,5 @@
 -- WHERE A MERGE IS DONE, the window that it answers holds the merged list in the output tables, and the list is lawful.
+use Rattle.std.specs.Prelude.{Err, Ok, Result}
 use Prim.Native.Nat.{ℕ, zero, suc, ◌+◌, ◌/◌}
 use mathlib.Core.Path.{◌≡◌, refl}
 use mathlib.Core.Bool.{Bool, true, false}
@@ -23,8 +24,6 @@ use Rattle.records.specs.declared.Refusal.TheVariants.{Unlawful, NoRoom, Compact
 use Rattle.records.proofs.Lists.{segments_back}
 use Rattle.lawful.specs.Judge.{judged_of}
 use Rattle.lawful.specs.Steps.{prefix_at}
-use Rattle.lawful.specs.declared.Judged.{Judged}
-use Rattle.lawful.specs.declared.Judged.TheVariants.{Lawful, Breaks}
 use Rattle.copy.specs.Copy.{no_room}
 use Rattle.segments.specs.Prefixes.{prefixes, prefixes_in}
 use Rattle.segments.specs.Refuses.{is_broken, rule_of}
@@ -33,7 +32,6 @@ use Rattle.segments.proofs.Demand3.{lawful_keeps}
 use Rattle.merge.specs.Merge.{from_writer, refuses6, place6, from_compactor, refuses7, place7}
 use Rattle.merge.specs.Answer.{LentList, Outcome, list_room, list_over, refused, list_given, writer_given, compactor_given, given_by, judged_both, merge_of}
 use Rattle.merge.specs.declared.Side.TheVariants.{Writer, Compactor}
-use Rattle.merge.specs.declared.Merged.TheVariants.{Done, Refused}
 use Rattle.merge.proofs.Results.{ListLawful, list_of, BytesEach, writer_lawful, compactor_lawful}
 
 -- the list that stands in the output tables at a window
@@ -49,38 +47,38 @@ list_back o ss =
     (holds_front (joined segment_bytes ss) (drop (length (joined segment_bytes ss)) o.pool))
 
 -- no refusal is a list
-never : {A : Type 0} (r : Refusal) (w : Window) → Refused r ≡ Done w → A
+never : {A : Type 0} (r : Refusal) (w : Window) → Err r ≡ Ok w → A
 never r w e = let z : ◌≡◌ {A = ℕ} 0 1 = cc in absurd (omega arith)
 
-given_done : (lim : Limits) (ss : List Segment) (o : LentList) (w : Window) → (list_given lim ss o).answer ≡ Done w → standing (list_given lim ss o).out w ≡ ss
+given_done : (lim : Limits) (ss : List Segment) (o : LentList) (w : Window) → (list_given lim ss o).answer ≡ Ok w → standing (list_given lim ss o).out w ≡ ss
 unfolding list_given
 given_done lim ss o w e = go (no_room lim (list_room o) (sum segment_fill ss)) e
   where
-    go : (b : Bool) → (pick b (refused NoRoom o) (record { answer = Done (record { first = 0; count = length ss }); out = list_over o ss })).answer ≡ Done w
-        → standing (pick b (refused NoRoom o) (record { answer = Done (record { first = 0; count = length ss }); out = list_over o ss })).out w ≡ ss
+    go : (b : Bool) → (pick b (refused NoRoom o) (record { answer = Ok (record { first = 0; count = length ss }); out = list_over o ss })).answer ≡ Ok w
+        → standing (pick b (refused NoRoom o) (record { answer = Ok (record { first = 0; count = length ss }); out = list_over o ss })).out w ≡ ss
     go true z = never NoRoom w z
     go false z = let f : record { first = 0; count = length ss } ≡ w = cc in rw (← f) (list_back o ss)
 
 -- a refusal before it is not given
-module _ (b : Bool) (x : Refusal) (given : Outcome) (o : LentList) (w : Window) (e : (pick b (refused x o) given).answer ≡ Done w) where
-  passed : (b ≡ false) × (given.answer ≡ Done w)
+module _ (b : Bool) (x : Refusal) (given : Outcome) (o : LentList) (w : Window) (e : (pick b (refused x o) given).answer ≡ Ok w) where
+  passed : (b ≡ false) × (given.answer ≡ Ok w)
   passed = go b e
     where
-      go : (b : Bool) → (pick b (refused x o) given).answer ≡ Done w → (b ≡ false) × (given.answer ≡ Done w)
+      go : (b : Bool) → (pick b (refused x o) given).answer ≡ Ok w → (b ≡ false) × (given.answer ≡ Ok w)
       go true z = never x w z
       go false z = (refl, z)
 
 -- both manifests are lawful, and what is given is given
-module _ (lim : Limits) (l : Lent) (w c : ManifestRow) (given : Outcome) (o : LentList) (x : Window) (e : (judged_both lim l w c given o).answer ≡ Done x) where
-  judged : (judged_of lim l w ≡ Lawful) × (judged_of lim l c ≡ Lawful) × (given.answer ≡ Done x) × (judged_both lim l w c given o ≡ given)
+module _ (lim : Limits) (l : Lent) (w c : ManifestRow) (given : Outcome) (o : LentList) (x : Window) (e : (judged_both lim l w c given o).answer ≡ Ok x) where
+  judged : (judged_of lim l w ≡ Ok tt) × (judged_of lim l c ≡ Ok tt) × (given.answer ≡ Ok x) × (judged_both lim l w c given o ≡ given)
   judged = go (judged_of lim l w) (judged_of lim l c) e
     where
-      go : (a b : Judged)
-          → (pick (is_broken a) (refused (Unlawful (rule_of a)) o) (pick (is_broken b) (refused (Unlawful (rule_of b)) o) given)).answer ≡ Done x
-          → (a ≡ Lawful) × (b ≡ Lawful) × (given.answer ≡ Done x) × (pick (is_broken a) (refused (Unlawful (rule_of a)) o) (pick (is_broken b) (refused (Unlawful (rule_of b)) o) given) ≡ given)
-      go Lawful Lawful z = (refl, refl, z, refl)
-      go Lawful (Breaks r) z = never (Unlawful r) x z
-      go (Breaks r) b z = never (Unlawful r) x z
+      go : (a b : Result Unit ℕ)
+          → (pick (is_broken a) (refused (Unlawful (rule_of a)) o) (pick (is_broken b) (refused (Unlawful (rule_of b)) o) given)).answer ≡ Ok x
+          → (a ≡ Ok tt) × (b ≡ Ok tt) × (given.answer ≡ Ok x) × (pick (is_broken a) (refused (Unlawful (rule_of a)) o) (pick (is_broken b) (refused (Unlawful (rule_of b)) o) given) ≡ given)
+      go (Ok _) (Ok _) z = (refl, refl, z, refl)
+      go (Ok _) (Err r) z = never (Unlawful r) x z
+      go (Err r) b z = never (Unlawful r) x z
 
 -- the prefixes of tables whose pool holds bytes are bytes
 bytes_up_to : (g : ℕ → List ℕ) → ((k : ℕ) → Bytes (g k)) → (n : ℕ) → BytesEach (up_to g n)
@@ -91,7 +89,7 @@ bytes_in_lem : (l : Lent) (m : ManifestRow) → Bytes l.pool → BytesEach (pref
 unfolding prefixes_in
 bytes_in_lem l m b = rw (prefixes_in_lem l m) (bytes_up_to (λ k. prefix_at l.segments l.pool (m.segments.first + k)) (λ k. bytes_part _ _ b) (held_of m.segments (length l.segments / 12)))
 
-lawful_list : (lim : Limits) (l : Lent) (m : ManifestRow) → judged_of lim l m ≡ Lawful → ListLawful (manifest_in l m).segments
+lawful_list : (lim : Limits) (l : Lent) (m : ManifestRow) → judged_of lim l m ≡ Ok tt → ListLawful (manifest_in l m).segments
 lawful_list lim l m e = let k = lawful_keeps lim l m e in list_of (manifest_in l m) k.second k.third k.fourth k.fifth
 
 module _ (lim : Limits) (l : Lent) (w c : ManifestRow) (o : LentList) (x : Window) where
@@ -101,7 +99,7 @@ module _ (lim : Limits) (l : Lent) (w c : ManifestRow) (o : LentList) (x : Windo
   abbrev cs : List Segment
   cs = (manifest_in l c).segments
 
-  pub writer_stands : (merge_of Writer lim l w c o).answer ≡ Done x → (standing (merge_of Writer lim l w c o).out x ≡ from_writer ws cs) × ListLawful (from_writer ws cs)
+  pub writer_stands : (merge_of Writer lim l w c o).answer ≡ Ok x → (standing (merge_of Writer lim l w c o).out x ≡ from_writer ws cs) × ListLawful (from_writer ws cs)
   unfolding merge_of given_by writer_given
   writer_stands e =
       let j = judged lim l w c (writer_given lim ws cs o) o x e in
@@ -110,7 +108,7 @@ module _ (lim : Limits) (l : Lent) (w c : ManifestRow) (o : LentList) (x : Windo
         writer_lawful ws cs (lawful_list lim l w j.0) (lawful_list lim l c j.1),
       )
 
-  pub compactor_stands : Bytes l.pool → (merge_of Compactor lim l w c o).answer ≡ Done x → (standing (merge_of Compactor lim l w c o).out x ≡ from_compactor ws cs) × ListLawful (from_compactor ws cs)
+  pub compactor_stands : Bytes l.pool → (merge_of Compactor lim l w c o).answer ≡ Ok x → (standing (merge_of Compactor lim l w c o).out x ≡ from_compactor ws cs) × ListLawful (from_compactor ws cs)
   unfolding merge_of given_by compactor_given
   compactor_stands b e =
       let j = judged lim l w c (compactor_given lim ws cs o) o x e in

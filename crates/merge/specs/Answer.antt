@@ -1,5 +1,5 @@
 -- What the merges answer, and what the lent output tables then hold.
-use Rattle.std.specs.Prelude.{ℕ, ◌/◌, List, [], ◌∷◌, length}
+use Rattle.std.specs.Prelude.{ℕ, ◌/◌, List, [], ◌∷◌, length, Err, Ok, Result}
 use Rattle.keys.specs.Pick.{pick}
 use Rattle.tables.specs.Layout.{over, joined}
 use Rattle.records.specs.Model.{Segment}
@@ -17,8 +17,7 @@ use Rattle.segments.specs.Refuses.{refuses1, first_broken}
 use Rattle.merge.specs.Merge.{from_writer, refuses6, place6, from_compactor, refuses7, place7}
 use Rattle.merge.specs.declared.Side.{Side}
 use Rattle.merge.specs.declared.Side.TheVariants.{Writer, Compactor}
-use Rattle.merge.specs.declared.Merged.{Merged}
-use Rattle.merge.specs.declared.Merged.TheVariants.{Done, Refused}
+use Rattle.tables.specs.declared.Window.{Window}
 
 -- the four lent output tables of a segment list
 pub record LentList : Type 0 where
@@ -29,7 +28,7 @@ pub record LentList : Type 0 where
 
 -- an answer, and what the lent output tables hold
 pub record Outcome : Type 0 where
-  pub answer : Merged
+  pub answer : Result Window Refusal
   pub out : LentList
 
 -- the places of the lent tables; of borrows and ids a segment list fills none
@@ -48,13 +47,13 @@ list_over o ss =
     }
 
 abbrev pub refused : Refusal → LentList → Outcome
-refused r o = record { answer = Refused r; out = o }
+refused r o = record { answer = Err r; out = o }
 
 -- "give a segment list from their segments alone; refusal 4 counts just that list"
 unfoldable pub list_given : Limits → List Segment → LentList → Outcome
 list_given lim ss o =
     pick (no_room lim (list_room o) (sum segment_fill ss)) (refused NoRoom o)
-    (record { answer = Done (record { first = 0; count = length ss }); out = list_over o ss })
+    (record { answer = Ok (record { first = 0; count = length ss }); out = list_over o ss })
 
 -- merge from writer: 6, 4
 unfoldable pub writer_given : Limits → List Segment → List Segment → LentList → Outcome
@@ -85,6 +84,6 @@ unfoldable pub merge_of : Side → Limits → Lent → ManifestRow → ManifestR
 merge_of side lim l w c o = judged_both lim l w c (given_by side lim (manifest_in l w).segments (manifest_in l c).segments o) o
 
 -- the number and the values of each answer
-abbrev pub merged : Merged → List ℕ
-merged (Done w) = 0 ∷ w.count ∷ []
-merged (Refused r) = refusal r
+abbrev pub merged : Result Window Refusal → List ℕ
+merged (Ok w) = 0 ∷ w.count ∷ []
+merged (Err r) = refusal r

@@ -1,5 +1,5 @@
 -- The walks that look for what refusals 6 and 7 speak of. No public promise speaks of them.
-use Rattle.std.specs.Prelude.{ℕ, ◌+◌, Bool, false, not, List, ◌∷◌}
+use Rattle.std.specs.Prelude.{ℕ, ◌+◌, Bool, false, not, List, ◌∷◌, None, Option, Some}
 use Rattle.keys.specs.Pick.{pick}
 use Rattle.keys.specs.Prefix.{begins_of}
 use Rattle.tables.specs.declared.Window.{Window}
@@ -10,22 +10,18 @@ use Rattle.merge.specs.Merge.{refuses6, place6, from_compactor, refuses7, place7
 use Rattle.merge.specs.Steps.{step_at, writer_taken, compactor_taken, empty_row}
 use Rattle.merge.specs.declared.Side.{Side}
 use Rattle.merge.specs.declared.Side.TheVariants.{Writer, Compactor}
-use Rattle.merge.specs.declared.Fault.{Fault}
-use Rattle.merge.specs.declared.Fault.TheVariants as fault
 use Rattle.merge.specs.declared.MergeStep.{MergeStep}
 use Rattle.merge.specs.declared.MergeStep.TheVariants.{End, WriterOnly, CompactorOnly, Both}
-use Rattle.merge.specs.declared.Keep.{Keep}
-use Rattle.merge.specs.declared.Keep.TheVariants.{Nothing, Kept}
 use Rattle.merge.specs.declared.Only.{Only}
-use Rattle.merge.specs.declared.Found.{Found}
-use Rattle.merge.specs.declared.Found.TheVariants as found
 use Rattle.merge.specs.declared.Nest.{Nest}
 use Rattle.merge.specs.declared.Nest.TheVariants as nest
+use Rattle.records.specs.declared.Refusal.{Refusal}
+use Rattle.records.specs.declared.SegmentRow.{SegmentRow}
 
 -- the refusal that is a merge's own
-unfoldable pub fault_of : Side → List Segment → List Segment → Fault
-fault_of Writer ws cs = pick (refuses6 ws cs) (fault.Is (refusal.CompactorOnly (place6 ws cs))) fault.Nothing
-fault_of Compactor ws cs = pick (refuses7 (from_compactor ws cs)) (fault.Is (refusal.KeptNest (place7 (from_compactor ws cs)))) fault.Nothing
+unfoldable pub fault_of : Side → List Segment → List Segment → Option Refusal
+fault_of Writer ws cs = pick (refuses6 ws cs) (Some (refusal.CompactorOnly (place6 ws cs))) None
+fault_of Compactor ws cs = pick (refuses7 (from_compactor ws cs)) (Some (refusal.KeptNest (place7 (from_compactor ws cs)))) None
 
 -- ---- refusal 6
 
@@ -45,26 +41,26 @@ only_of segments views runs pool w c i j =
     }
 
 -- the first compactor's segment with data that the writer has not, j coming before them
-unfoldable pub first_only : ℕ → List Segment → List Segment → Found
-first_only j ws cs = pick (refuses6 ws cs) (found.At (j + place6 ws cs)) found.Nowhere
+unfoldable pub first_only : ℕ → List Segment → List Segment → Option ℕ
+first_only j ws cs = pick (refuses6 ws cs) (Some (j + place6 ws cs)) None
 
 -- ---- refusal 7
 
 -- the first that begins the next, k coming before them
-unfoldable pub first_nest : ℕ → List (List ℕ) → Found
-first_nest k ps = pick (nests ps) (found.At (k + nests_at ps)) found.Nowhere
+unfoldable pub first_nest : ℕ → List (List ℕ) → Option ℕ
+first_nest k ps = pick (nests ps) (Some (k + nests_at ps)) None
 
 -- what was kept so far, and what more prefixes then give
-abbrev pub nest_in : List ℕ → Nest → List (List ℕ) → Found
+abbrev pub nest_in : List ℕ → Nest → List (List ℕ) → Option ℕ
 nest_in pool nest.Clear ps = first_nest 0 ps
 nest_in pool (nest.Last k p) ps = first_nest k (bytes_in pool p ∷ ps)
-nest_in pool (nest.At k) ps = found.At k
+nest_in pool (nest.At k) ps = Some k
 
-abbrev pub nest_step : List ℕ → Nest → Keep → Nest
-nest_step pool n Nothing = n
-nest_step pool nest.Clear (Kept s) = nest.Last 0 s.prefix
-nest_step pool (nest.Last k p) (Kept s) = pick (begins_of (bytes_in pool p) (bytes_in pool s.prefix)) (nest.At k) (nest.Last (k + 1) s.prefix)
-nest_step pool (nest.At k) (Kept s) = nest.At k
+abbrev pub nest_step : List ℕ → Nest → Option SegmentRow → Nest
+nest_step pool n None = n
+nest_step pool nest.Clear (Some s) = nest.Last 0 s.prefix
+nest_step pool (nest.Last k p) (Some s) = pick (begins_of (bytes_in pool p) (bytes_in pool s.prefix)) (nest.At k) (nest.Last (k + 1) s.prefix)
+nest_step pool (nest.At k) (Some s) = nest.At k
 
 -- how many were kept before one began the next
 abbrev pub nest_count : Nest → ℕ
@@ -72,7 +68,7 @@ nest_count nest.Clear = 0
 nest_count (nest.Last k p) = k + 1
 nest_count (nest.At k) = 0
 
-abbrev pub nest_found : Nest → Found
-nest_found nest.Clear = found.Nowhere
-nest_found (nest.Last k p) = found.Nowhere
-nest_found (nest.At k) = found.At k
+abbrev pub nest_found : Nest → Option ℕ
+nest_found nest.Clear = None
+nest_found (nest.Last k p) = None
+nest_found (nest.At k) = Some k

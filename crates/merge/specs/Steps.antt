@@ -1,11 +1,9 @@
 -- The steps that the code takes over the rows of both segment lists. No public promise speaks of them.
-use Rattle.std.specs.Prelude.{ℕ, ◌+◌, ◌/◌, Bool, ◌&&◌, List, [], ◌∷◌, eqb, length, drop}
+use Rattle.std.specs.Prelude.{ℕ, ◌+◌, ◌/◌, Bool, ◌&&◌, List, [], ◌∷◌, eqb, length, drop, None, Option, Some}
 use Rattle.keys.specs.Pick.{pick}
 use Rattle.keys.specs.Key.{order_of}
-use Rattle.keys.specs.declared.Order.{Order}
-use Rattle.keys.specs.declared.Order.TheVariants.{Less, Equal, Greater}
-use Rattle.ids.specs.declared.ViewMark.TheVariants as view_marks
-use Rattle.ids.specs.declared.SstMark.TheVariants as sst_marks
+use Rattle.std.specs.declared.cmp.Ordering.{Ordering}
+use Rattle.std.specs.declared.cmp.Ordering.TheVariants.{Less, Equal, Greater}
 use Rattle.tables.specs.Layout.{up_to}
 use Rattle.tables.specs.Window.{held_of}
 use Rattle.tables.specs.declared.Window.{Window}
@@ -22,16 +20,12 @@ use Rattle.measure.specs.Tests.{all_of}
 use Rattle.measure.specs.Within.{tree_views, short}
 use Rattle.measure.specs.Placed.{key_in, tree_placed}
 use Rattle.measure.specs.Walk.{then, add_of, segment_row_walk}
-use Rattle.measure.specs.declared.Measured.{Measured}
-use Rattle.measure.specs.declared.Measured.TheVariants.{Broken, Fills}
 use Rattle.merge.specs.Merge.{from_writer, from_compactor}
 use Rattle.merge.specs.Rows.{merged_tree}
 use Rattle.merge.specs.declared.Side.{Side}
 use Rattle.merge.specs.declared.Side.TheVariants.{Writer, Compactor}
 use Rattle.merge.specs.declared.MergeStep.{MergeStep}
 use Rattle.merge.specs.declared.MergeStep.TheVariants.{End, WriterOnly, CompactorOnly, Both}
-use Rattle.merge.specs.declared.Keep.{Keep}
-use Rattle.merge.specs.declared.Keep.TheVariants.{Nothing, Kept}
 use Rattle.merge.specs.declared.Next.{Next}
 
 -- the segment rows of a window
@@ -45,7 +39,7 @@ segments_of runs views pool (s ∷ ss) = segment_in runs views pool s ∷ segmen
 
 -- ---- the next step: the row with the lower prefix, or both
 
-abbrev pub step_by : Order → SegmentRow → SegmentRow → MergeStep
+abbrev pub step_by : Ordering → SegmentRow → SegmentRow → MergeStep
 step_by Less w c = WriterOnly w
 step_by Equal w c = Both w c
 step_by Greater w c = CompactorOnly c
@@ -75,8 +69,8 @@ compactor_taken (Both w c) = 1
 abbrev pub new_row : TreeRow
 new_row =
     record {
-      view = view_marks.None;
-      sst = sst_marks.None;
+      view = None;
+      sst = None;
       l0 = record { first = 0; count = 0 };
       compacted = record { first = 0; count = 0 };
     }
@@ -84,33 +78,33 @@ new_row =
 abbrev pub merged_row : List ℕ → Place → TreeRow → TreeRow → SegmentRow
 merged_row views p w c = record { prefix = p; tree = merged_tree views w c }
 
-abbrev pub writer_keep : List ℕ → MergeStep → Keep
-writer_keep views End = Nothing
-writer_keep views (WriterOnly w) = Kept (merged_row views w.prefix w.tree new_row)
-writer_keep views (CompactorOnly c) = Nothing
-writer_keep views (Both w c) = Kept (merged_row views w.prefix w.tree c.tree)
+abbrev pub writer_keep : List ℕ → MergeStep → Option SegmentRow
+writer_keep views End = None
+writer_keep views (WriterOnly w) = Some (merged_row views w.prefix w.tree new_row)
+writer_keep views (CompactorOnly c) = None
+writer_keep views (Both w c) = Some (merged_row views w.prefix w.tree c.tree)
 
 -- "Empty means no L0 and no run, watermarks ignored."
 abbrev pub empty_row : List ℕ → List ℕ → TreeRow → Bool
 empty_row views runs t = eqb (held_of t.l0 (length views / 16)) 0 && eqb (held_of t.compacted (length runs / 3)) 0
 
-abbrev pub filled_keep : List ℕ → List ℕ → SegmentRow → Keep
-filled_keep views runs s = pick (empty_row views runs s.tree) Nothing (Kept s)
+abbrev pub filled_keep : List ℕ → List ℕ → SegmentRow → Option SegmentRow
+filled_keep views runs s = pick (empty_row views runs s.tree) None (Some s)
 
-abbrev pub compactor_keep : List ℕ → List ℕ → MergeStep → Keep
-compactor_keep views runs End = Nothing
+abbrev pub compactor_keep : List ℕ → List ℕ → MergeStep → Option SegmentRow
+compactor_keep views runs End = None
 compactor_keep views runs (WriterOnly w) = filled_keep views runs (merged_row views w.prefix w.tree new_row)
 compactor_keep views runs (CompactorOnly c) = filled_keep views runs (merged_row views c.prefix new_row c.tree)
 compactor_keep views runs (Both w c) = filled_keep views runs (merged_row views w.prefix w.tree c.tree)
 
-abbrev pub keep_by : Side → List ℕ → List ℕ → MergeStep → Keep
+abbrev pub keep_by : Side → List ℕ → List ℕ → MergeStep → Option SegmentRow
 keep_by Writer views runs s = writer_keep views s
 keep_by Compactor views runs s = compactor_keep views runs s
 
 -- the segment that is kept, if one is
-abbrev pub keep_in : List ℕ → List ℕ → List ℕ → Keep → List Segment
-keep_in runs views pool Nothing = []
-keep_in runs views pool (Kept s) = segment_in runs views pool s ∷ []
+abbrev pub keep_in : List ℕ → List ℕ → List ℕ → Option SegmentRow → List Segment
+keep_in runs views pool None = []
+keep_in runs views pool (Some s) = segment_in runs views pool s ∷ []
 
 -- which merge
 abbrev pub merged_from : Side → List Segment → List Segment → List Segment
@@ -137,10 +131,10 @@ row_kept lim views runs pool s =
     (key_in (length pool) s.prefix && tree_placed (length pool) views runs s.tree)
     && (short lim.prefix (bytes_in pool s.prefix) && all_of (λ v. all_of (short lim.key) (view_keys v)) (tree_views (tree_in runs views pool s.tree)))
 
-abbrev pub keep_walk : Limits → List ℕ → List ℕ → ℕ → Keep → Fill → Measured
-keep_walk lim views runs n Nothing c = Fills c
-keep_walk lim views runs n (Kept s) c = then (add_of lim.fill c (segments 1)) (segment_row_walk lim views runs n s)
+abbrev pub keep_walk : Limits → List ℕ → List ℕ → ℕ → Option SegmentRow → Fill → Option Fill
+keep_walk lim views runs n None c = Some c
+keep_walk lim views runs n (Some s) c = then (add_of lim.fill c (segments 1)) (segment_row_walk lim views runs n s)
 
 -- what some segments fill, where it is within the limits
-unfoldable pub list_measured : Limits → List Segment → Measured
-list_measured lim ss = pick (fits (sum segment_fill ss) lim.fill) (Fills (sum segment_fill ss)) Broken
+unfoldable pub list_measured : Limits → List Segment → Option Fill
+list_measured lim ss = pick (fits (sum segment_fill ss) lim.fill) (Some (sum segment_fill ss)) None

@@ -10,26 +10,18 @@ ghost use Rattle.keys.specs.Key.{less_of};
 ghost use Rattle.records.specs.Decode.{segments_in, manifest_in};
 ghost use Rattle.measure.specs.Tests.{all_of, chain};
 ghost use Rattle.lawful.specs.Judge.{judged_of};
-ghost use Rattle.lawful.specs.declared.Judged.TheVariants.{Lawful};
 ghost use Rattle.segments.specs.Prefixes.{prefixes_in};
 ghost use Rattle.merge.specs.Answer.{list_given, given_by, merge_of};
 ghost use Rattle.merge.specs.Steps.{rows_in, merged_from, row_kept};
 ghost use Rattle.merge.specs.declared.Side.TheVariants.{Writer, Compactor};
 
-use lawful::{Judged, lawful};
-use measure::{Measured, fits_in};
+use lawful::lawful;
+use measure::fits_in;
 use merge_faults::own_fault;
 use merge_laid::{measure_merged, put_merged};
 pub use merge_steps::merge_writer_and_compactor;
 use records::{Fill, Limits, ManifestRow, Place, Refusal, SegmentRow};
 use tables::Window;
-
-// Where the merged segment list stands in the output tables, or why there is none.
-#[derive(Clone, Copy)]
-pub enum Merged {
-    Done(Window),
-    Refused(Refusal),
-}
 
 // Whose manifest is merged in.
 #[derive(Clone, Copy)]
@@ -47,13 +39,6 @@ enum MergeStep {
     Both(SegmentRow, SegmentRow),
 }
 
-// The segment that a step gives, or none.
-#[derive(Clone, Copy)]
-enum Keep {
-    Nothing,
-    Kept(SegmentRow),
-}
-
 #[derive(Clone, Copy)]
 struct Cursors {
     i: usize,
@@ -63,23 +48,9 @@ struct Cursors {
 // What a step gives, and the cursors past it.
 #[derive(Clone, Copy)]
 struct Next {
-    keep: Keep,
+    keep: Option<SegmentRow>,
     i: usize,
     j: usize,
-}
-
-// Why a merge of lawful manifests is refused by its own rule, if it is.
-#[derive(Clone, Copy)]
-enum Fault {
-    Nothing,
-    Is(Refusal),
-}
-
-// Where something was found.
-#[derive(Clone, Copy)]
-enum Found {
-    Nowhere,
-    At(usize),
 }
 
 // Whether a step has data that is the compactor's only, and the cursors past it.
@@ -114,15 +85,12 @@ fn give(
     out_views: &mut [u64],
     out_runs: &mut [u64],
     out_pool: &mut [u8],
-) -> Merged
+) -> Result<Window, Refusal>
     requires w_value { (chain less_of (prefixes_in segments.now pool.now w) ≡ true) × (chain less_of (prefixes_in segments.now pool.now c) ≡ true) }
     requires w_value_2 { (all_of (row_kept lim views.now runs.now pool.now) (rows_in segments.now w) ≡ true) × (all_of (row_kept lim views.now runs.now pool.now) (rows_in segments.now c) ≡ true) }
     ensures { record { answer = result; out = record { segments = out_segments.new; views = out_views.new; runs = out_runs.new; pool = out_pool.new } } ≡ list_given lim (merged_from side (segments_in segments.now runs.now views.now pool.now w) (segments_in segments.now runs.now views.now pool.now c)) (record { segments = out_segments.old; views = out_views.old; runs = out_runs.old; pool = out_pool.old }) }
 {
-    let u = measure_merged(side, lim, segments, runs, views, pool, w, c);
-    let Measured::Fills(f) = u else {
-        return Merged::Refused(Refusal::NoRoom);
-    };
+    let f = measure_merged(side, lim, segments, runs, views, pool, w, c).ok_or(Refusal::NoRoom)?;
     let room = Fill {
         segments: out_segments.len() / 12,
         views: out_views.len() / 16,
@@ -145,12 +113,12 @@ fn give(
             out_views,
             out_pool,
         );
-        return Merged::Done(Window {
+        return Ok(Window {
             first: 0,
             count: to.segments,
         });
     }
-    Merged::Refused(Refusal::NoRoom)
+    Err(Refusal::NoRoom)
 }
 
 // A merge of two lawful manifests.
@@ -170,15 +138,15 @@ pub fn merge_judged(
     out_views: &mut [u64],
     out_runs: &mut [u64],
     out_pool: &mut [u8],
-) -> Merged
-    requires { (judged_of lim (record { segments = segments.now; views = views.now; runs = runs.now; borrows = borrows.now; ids = ids.now; pool = pool.now }) writer ≡ Lawful) × (judged_of lim (record { segments = segments.now; views = views.now; runs = runs.now; borrows = borrows.now; ids = ids.now; pool = pool.now }) compactor ≡ Lawful) }
+) -> Result<Window, Refusal>
+    requires { (judged_of lim (record { segments = segments.now; views = views.now; runs = runs.now; borrows = borrows.now; ids = ids.now; pool = pool.now }) writer ≡ Ok tt) × (judged_of lim (record { segments = segments.now; views = views.now; runs = runs.now; borrows = borrows.now; ids = ids.now; pool = pool.now }) compactor ≡ Ok tt) }
     ensures { record { answer = result; out = record { segments = out_segments.new; views = out_views.new; runs = out_runs.new; pool = out_pool.new } } ≡ given_by side lim (manifest_in (record { segments = segments.now; views = views.now; runs = runs.now; borrows = borrows.now; ids = ids.now; pool = pool.now }) writer).segments (manifest_in (record { segments = segments.now; views = views.now; runs = runs.now; borrows = borrows.now; ids = ids.now; pool = pool.now }) compactor).segments (record { segments = out_segments.old; views = out_views.old; runs = out_runs.old; pool = out_pool.old }) }
 {
     let w = writer.segments;
     let c = compactor.segments;
     match own_fault(side, segments, views, runs, pool, w, c) {
-        Fault::Is(x) => Merged::Refused(x),
-        Fault::Nothing => give(
+        Some(x) => Err(x),
+        None => give(
             side,
             lim,
             segments,
@@ -211,17 +179,18 @@ fn merge_segments(
     out_views: &mut [u64],
     out_runs: &mut [u64],
     out_pool: &mut [u8],
-) -> Merged
+) -> Result<Window, Refusal>
     ensures { record { answer = result; out = record { segments = out_segments.new; views = out_views.new; runs = out_runs.new; pool = out_pool.new } } ≡ merge_of side lim (record { segments = segments.now; views = views.now; runs = runs.now; borrows = borrows.now; ids = ids.now; pool = pool.now }) writer compactor (record { segments = out_segments.old; views = out_views.old; runs = out_runs.old; pool = out_pool.old }) }
 {
+    // Two `match`es: what `map_err` makes of a variant's name is not proved.
     let a = lawful(lim, segments, views, runs, borrows, ids, pool, writer);
     match a {
-        Judged::Breaks(rule) => Merged::Refused(Refusal::Unlawful(rule)),
-        Judged::Lawful => {
+        Err(rule) => Err(Refusal::Unlawful(rule)),
+        Ok(()) => {
             let b = lawful(lim, segments, views, runs, borrows, ids, pool, compactor);
             match b {
-                Judged::Breaks(rule) => Merged::Refused(Refusal::Unlawful(rule)),
-                Judged::Lawful => merge_judged(
+                Err(rule) => Err(Refusal::Unlawful(rule)),
+                Ok(()) => merge_judged(
                     side,
                     lim,
                     segments,
@@ -257,7 +226,7 @@ pub fn merge_segments_from_writer(
     out_views: &mut [u64],
     out_runs: &mut [u64],
     out_pool: &mut [u8],
-) -> Merged
+) -> Result<Window, Refusal>
     ensures { record { answer = result; out = record { segments = out_segments.new; views = out_views.new; runs = out_runs.new; pool = out_pool.new } } ≡ merge_of Writer lim (record { segments = segments.now; views = views.now; runs = runs.now; borrows = borrows.now; ids = ids.now; pool = pool.now }) writer compactor (record { segments = out_segments.old; views = out_views.old; runs = out_runs.old; pool = out_pool.old }) }
 {
     merge_segments(
@@ -293,7 +262,7 @@ pub fn merge_segments_from_compactor(
     out_views: &mut [u64],
     out_runs: &mut [u64],
     out_pool: &mut [u8],
-) -> Merged
+) -> Result<Window, Refusal>
     ensures { record { answer = result; out = record { segments = out_segments.new; views = out_views.new; runs = out_runs.new; pool = out_pool.new } } ≡ merge_of Compactor lim (record { segments = segments.now; views = views.now; runs = runs.now; borrows = borrows.now; ids = ids.now; pool = pool.now }) writer compactor (record { segments = out_segments.old; views = out_views.old; runs = out_runs.old; pool = out_pool.old }) }
 {
     merge_segments(

@@ -8,9 +8,9 @@ ghost use Rattle.merge.specs.Merge.{from_compactor};
 ghost use Rattle.merge.specs.Finds.{fault_of, data_step, only_of, first_only, first_nest, nest_step, nest_count, nest_found};
 
 use crate::merge_steps::{advance, is_empty_tree, merge_step, next_kept};
-use crate::{Fault, Found, Keep, MergeStep, Nest, Only, Side};
+use crate::{MergeStep, Nest, Only, Side};
 use keys::{begins, part};
-use records::Refusal;
+use records::{Refusal, SegmentRow};
 use tables::{Window, held};
 
 fn has_data(views: &[u64], runs: &[u64], step: MergeStep) -> bool
@@ -58,7 +58,7 @@ fn find_only(
     pool: &[u8],
     w: Window,
     c: Window,
-) -> Found
+) -> Option<usize>
     requires { (chain less_of (prefixes_in segments.now pool.now w) ≡ true) × (chain less_of (prefixes_in segments.now pool.now c) ≡ true) }
     ensures { result ≡ first_only 0 (segments_in segments.now runs.now views.now pool.now w) (segments_in segments.now runs.now views.now pool.now c) }
 {
@@ -67,24 +67,25 @@ fn find_only(
     let end = n + m;
     let mut i = 0;
     let mut j = 0;
+    // A `while`: two places move, one of them or both at each step, and there is no single counter.
     while i + j < end {
         let s = next_only(segments, views, runs, pool, w, c, i, j);
         if s.alone {
-            return Found::At(j);
+            return Some(j);
         }
         i = s.i;
         j = s.j;
     }
-    Found::Nowhere
+    None
 }
 
-fn nest_step(pool: &[u8], nest: Nest, keep: Keep) -> Nest
+fn nest_step(pool: &[u8], nest: Nest, keep: Option<SegmentRow>) -> Nest
     requires { nest_count nest < 2 ^ 64 }
     ensures { result ≡ nest_step pool.now nest keep }
 {
     match keep {
-        Keep::Nothing => nest,
-        Keep::Kept(s) => {
+        None => nest,
+        Some(s) => {
             let q = s.prefix;
             match nest {
                 Nest::Clear => Nest::Last(0, q),
@@ -100,13 +101,13 @@ fn nest_step(pool: &[u8], nest: Nest, keep: Keep) -> Nest
     }
 }
 
-fn nest_found(nest: Nest) -> Found
+fn nest_found(nest: Nest) -> Option<usize>
     ensures { result ≡ nest_found nest }
 {
     match nest {
-        Nest::Clear => Found::Nowhere,
-        Nest::Last(_, _) => Found::Nowhere,
-        Nest::At(k) => Found::At(k),
+        Nest::Clear => None,
+        Nest::Last(_, _) => None,
+        Nest::At(k) => Some(k),
     }
 }
 
@@ -118,7 +119,7 @@ fn find_nest(
     pool: &[u8],
     w: Window,
     c: Window,
-) -> Found
+) -> Option<usize>
     requires { (chain less_of (prefixes_in segments.now pool.now w) ≡ true) × (chain less_of (prefixes_in segments.now pool.now c) ≡ true) }
     ensures { result ≡ first_nest 0 (prefixes (from_compactor (segments_in segments.now runs.now views.now pool.now w) (segments_in segments.now runs.now views.now pool.now c))) }
 {
@@ -128,6 +129,7 @@ fn find_nest(
     let mut nest = Nest::Clear;
     let mut i = 0;
     let mut j = 0;
+    // A `while`: two places move, one of them or both at each step, and there is no single counter.
     while i + j < end {
         let s = next_kept(Side::Compactor, segments, views, runs, pool, w, c, i, j);
         let keep = s.keep;
@@ -147,18 +149,18 @@ pub fn own_fault(
     pool: &[u8],
     w: Window,
     c: Window,
-) -> Fault
+) -> Option<Refusal>
     requires { (chain less_of (prefixes_in segments.now pool.now w) ≡ true) × (chain less_of (prefixes_in segments.now pool.now c) ≡ true) }
     ensures { result ≡ fault_of side (segments_in segments.now runs.now views.now pool.now w) (segments_in segments.now runs.now views.now pool.now c) }
 {
     match side {
-        Side::Writer => match find_only(segments, runs, views, pool, w, c) {
-            Found::At(k) => Fault::Is(Refusal::CompactorOnly(k)),
-            Found::Nowhere => Fault::Nothing,
-        },
-        Side::Compactor => match find_nest(segments, runs, views, pool, w, c) {
-            Found::At(k) => Fault::Is(Refusal::KeptNest(k)),
-            Found::Nowhere => Fault::Nothing,
-        },
+        Side::Writer => {
+            let k = find_only(segments, runs, views, pool, w, c)?;
+            Some(Refusal::CompactorOnly(k))
+        }
+        Side::Compactor => {
+            let k = find_nest(segments, runs, views, pool, w, c)?;
+            Some(Refusal::KeptNest(k))
+        }
     }
 }

@@ -9,21 +9,27 @@ ghost use Rattle.measure.specs.Tests.{all_of, chain};
 ghost use Rattle.segments.specs.Prefixes.{prefixes_in};
 ghost use Rattle.merge.specs.Steps.{rows_in, keep_in, merged_from, row_kept, keep_walk, list_measured};
 
+use crate::Side;
 use crate::merge_steps::next_kept;
-use crate::{Keep, Side};
 use emit::put_segment;
-use measure::{Measured, add, segment_row};
-use records::{Fill, Limits};
+use measure::{add, segment_row};
+use records::{Fill, Limits, SegmentRow};
 use tables::{Window, held};
 
 // What is kept, counted on from `c`, in a pool of `n` bytes.
-fn fill_kept(lim: Limits, views: &[u64], runs: &[u64], n: usize, keep: Keep, c: Fill) -> Measured
+fn fill_kept(
+    lim: Limits,
+    views: &[u64],
+    runs: &[u64],
+    n: usize,
+    keep: Option<SegmentRow>,
+    c: Fill,
+) -> Option<Fill>
     ensures { result ≡ keep_walk lim views.now runs.now n keep c }
 {
-    let most = lim.fill;
     match keep {
-        Keep::Nothing => Measured::Fills(c),
-        Keep::Kept(s) => {
+        None => Some(c),
+        Some(s) => {
             let one = Fill {
                 segments: 1,
                 views: 0,
@@ -32,10 +38,7 @@ fn fill_kept(lim: Limits, views: &[u64], runs: &[u64], n: usize, keep: Keep, c: 
                 ids: 0,
                 bytes: 0,
             };
-            let u = add(most, c, one);
-            let Measured::Fills(d) = u else {
-                return Measured::Broken;
-            };
+            let d = add(lim.fill, c, one)?;
             segment_row(lim, views, runs, n, s, d)
         }
     }
@@ -51,7 +54,7 @@ pub fn measure_merged(
     pool: &[u8],
     w: Window,
     c: Window,
-) -> Measured
+) -> Option<Fill>
     requires w_value { (chain less_of (prefixes_in segments.now pool.now w) ≡ true) × (chain less_of (prefixes_in segments.now pool.now c) ≡ true) }
     requires w_value_2 { (all_of (row_kept lim views.now runs.now pool.now) (rows_in segments.now w) ≡ true) × (all_of (row_kept lim views.now runs.now pool.now) (rows_in segments.now c) ≡ true) }
     ensures { result ≡ list_measured lim (merged_from side (segments_in segments.now runs.now views.now pool.now w) (segments_in segments.now runs.now views.now pool.now c)) }
@@ -69,25 +72,22 @@ pub fn measure_merged(
     };
     let mut i = 0;
     let mut j = 0;
+    // A `while`: two places move, one of them or both at each step, and there is no single counter.
     while i + j < end {
         let s = next_kept(side, segments, views, runs, pool, w, c, i, j);
         let keep = s.keep;
-        let u = fill_kept(lim, views, runs, pool.len(), keep, to);
-        let Measured::Fills(past) = u else {
-            return Measured::Broken;
-        };
-        to = past;
+        to = fill_kept(lim, views, runs, pool.len(), keep, to)?;
         i = s.i;
         j = s.j;
     }
-    Measured::Fills(to)
+    Some(to)
 }
 
 // ---- the result, laid out
 
 // Appends the segment that is kept, if one is.
 fn put_kept(
-    keep: Keep,
+    keep: Option<SegmentRow>,
     runs: &[u64],
     views: &[u64],
     pool: &[u8],
@@ -108,8 +108,8 @@ fn put_kept(
     ensures out_pool_after { out_pool.new ≡ write out_pool.old c.bytes (joined segment_bytes (keep_in runs.now views.now pool.now keep)) }
 {
     match keep {
-        Keep::Nothing => c,
-        Keep::Kept(s) => put_segment(
+        None => c,
+        Some(s) => put_segment(
             s,
             runs,
             views,
@@ -161,6 +161,7 @@ pub fn put_merged(
     };
     let mut i = 0;
     let mut j = 0;
+    // A `while`: two places move, one of them or both at each step, and there is no single counter.
     while i + j < end {
         let s = next_kept(side, segments, views, runs, pool, w, c, i, j);
         let keep = s.keep;

@@ -6,10 +6,11 @@ ghost use Rattle.records.specs.Decode.{bytes_in};
 ghost use Rattle.merge.specs.Rows.{absorbed_row, left_of, merged_tree};
 ghost use Rattle.merge.specs.Steps.{rows_in, step_by, step_of, writer_taken, compactor_taken, new_row, merged_row, writer_keep, empty_row, filled_keep, compactor_keep, keep_by, next_of};
 
-use crate::{Cursors, Keep, MergeStep, Next, Side};
-use ids::{SstMark, ViewMark, marks_sst, marks_view};
-use keys::{Order, compare, part};
+use crate::{Cursors, MergeStep, Next, Side};
+use ids::marks;
+use keys::{compare, part};
 use records::{Place, SegmentRow, TreeRow, segment_at, view_at};
+use std::cmp::Ordering;
 use tables::{Window, held};
 
 // Whether neither watermark of the compactor's tree `c` names view `i`.
@@ -18,14 +19,10 @@ fn is_left(views: &[u64], i: usize, c: TreeRow) -> bool
     ensures { result ≡ not (absorbed_row c (view_at views.now i)) }
 {
     let v = view_at(views, i);
-    let id = v.id;
-    let sst = v.sst;
-    let by_view = c.view;
-    let by_sst = c.sst;
-    if marks_view(by_view, id) {
+    if marks(c.view, v.id) {
         return false;
     }
-    !marks_sst(by_sst, sst)
+    !marks(c.sst, v.sst)
 }
 
 // How many views of the writer's L0 come before the first that the compactor has absorbed.
@@ -33,14 +30,12 @@ fn count_left(views: &[u64], l0: Window, c: TreeRow) -> usize
     ensures { result ≡ left_of views.now l0 c }
 {
     let n = held(l0, views.len() / 16);
-    let mut k = 0;
-    while k < n {
+    for k in 0..n {
         if !is_left(views, l0.first + k, c) {
             return k;
         }
-        k += 1;
     }
-    k
+    n
 }
 
 // The writer's L0 without what the compactor has absorbed; runs and watermarks are the compactor's.
@@ -48,18 +43,15 @@ pub fn merge_writer_and_compactor(views: &[u64], w: TreeRow, c: TreeRow) -> Tree
     ensures { result ≡ merged_tree views.now w c }
 {
     let l0 = w.l0;
-    let view = c.view;
-    let sst = c.sst;
-    let compacted = c.compacted;
     let count = count_left(views, l0, c);
     TreeRow {
-        view,
-        sst,
+        view: c.view,
+        sst: c.sst,
         l0: Window {
             first: l0.first,
             count,
         },
-        compacted,
+        compacted: c.compacted,
     }
 }
 
@@ -71,9 +63,9 @@ fn step_by(pool: &[u8], w: SegmentRow, c: SegmentRow) -> MergeStep
     let a = w.prefix;
     let b = c.prefix;
     match compare(part(pool, a.at, a.len), part(pool, b.at, b.len)) {
-        Order::Less => MergeStep::WriterOnly(w),
-        Order::Equal => MergeStep::Both(w, c),
-        Order::Greater => MergeStep::CompactorOnly(c),
+        Ordering::Less => MergeStep::WriterOnly(w),
+        Ordering::Equal => MergeStep::Both(w, c),
+        Ordering::Greater => MergeStep::CompactorOnly(c),
     }
 }
 
@@ -123,8 +115,8 @@ fn new_tree() -> TreeRow
     ensures { result ≡ new_row }
 {
     TreeRow {
-        view: ViewMark::None,
-        sst: SstMark::None,
+        view: None,
+        sst: None,
         l0: Window { first: 0, count: 0 },
         compacted: Window { first: 0, count: 0 },
     }
@@ -138,22 +130,22 @@ fn merged_row(views: &[u64], prefix: Place, w: TreeRow, c: TreeRow) -> SegmentRo
 }
 
 // Merge from writer: every writer's segment, empty or not, and no other.
-fn writer_keep(views: &[u64], step: MergeStep) -> Keep
+fn writer_keep(views: &[u64], step: MergeStep) -> Option<SegmentRow>
     ensures { result ≡ writer_keep views.now step }
 {
     match step {
-        MergeStep::End => Keep::Nothing,
+        MergeStep::End => None,
         MergeStep::WriterOnly(w) => {
             let p = w.prefix;
             let t = w.tree;
-            Keep::Kept(merged_row(views, p, t, new_tree()))
+            Some(merged_row(views, p, t, new_tree()))
         }
-        MergeStep::CompactorOnly(_) => Keep::Nothing,
+        MergeStep::CompactorOnly(_) => None,
         MergeStep::Both(w, c) => {
             let p = w.prefix;
             let t = w.tree;
             let u = c.tree;
-            Keep::Kept(merged_row(views, p, t, u))
+            Some(merged_row(views, p, t, u))
         }
     }
 }
@@ -162,30 +154,27 @@ fn writer_keep(views: &[u64], step: MergeStep) -> Keep
 pub fn is_empty_tree(views: &[u64], runs: &[u64], t: TreeRow) -> bool
     ensures { result ≡ empty_row views.now runs.now t }
 {
-    let l0 = t.l0;
-    let compacted = t.compacted;
-    if held(l0, views.len() / 16) == 0 {
-        return held(compacted, runs.len() / 3) == 0;
+    if held(t.l0, views.len() / 16) == 0 {
+        return held(t.compacted, runs.len() / 3) == 0;
     }
     false
 }
 
-fn filled_keep(views: &[u64], runs: &[u64], s: SegmentRow) -> Keep
+fn filled_keep(views: &[u64], runs: &[u64], s: SegmentRow) -> Option<SegmentRow>
     ensures { result ≡ filled_keep views.now runs.now s }
 {
-    let t = s.tree;
-    if is_empty_tree(views, runs, t) {
-        return Keep::Nothing;
+    if is_empty_tree(views, runs, s.tree) {
+        return None;
     }
-    Keep::Kept(s)
+    Some(s)
 }
 
 // Merge from compactor: what either side has, if the result is not empty.
-fn compactor_keep(views: &[u64], runs: &[u64], step: MergeStep) -> Keep
+fn compactor_keep(views: &[u64], runs: &[u64], step: MergeStep) -> Option<SegmentRow>
     ensures { result ≡ compactor_keep views.now runs.now step }
 {
     match step {
-        MergeStep::End => Keep::Nothing,
+        MergeStep::End => None,
         MergeStep::WriterOnly(w) => {
             let p = w.prefix;
             let t = w.tree;
@@ -205,7 +194,7 @@ fn compactor_keep(views: &[u64], runs: &[u64], step: MergeStep) -> Keep
     }
 }
 
-fn keep_by(side: Side, views: &[u64], runs: &[u64], step: MergeStep) -> Keep
+fn keep_by(side: Side, views: &[u64], runs: &[u64], step: MergeStep) -> Option<SegmentRow>
     ensures { result ≡ keep_by side views.now runs.now step }
 {
     match side {

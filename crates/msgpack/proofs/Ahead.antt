@@ -1,4 +1,5 @@
 -- A value ends behind its start, and within the bytes.
+use Rattle.std.specs.Prelude.{Err, Ok, Result}
 use mathlib.Core.Path.{◌≡◌, refl}
 use mathlib.Core.Bool.{Bool, true, false}
 use mathlib.Core.List.{List, [], ◌∷◌}
@@ -19,8 +20,6 @@ use Rattle.msgpack.specs.declared.Kind.TheVariants as kind
 use Rattle.msgpack.specs.declared.Form.{Form}
 use Rattle.msgpack.specs.declared.Head.{Head}
 use Rattle.msgpack.specs.declared.Head.TheVariants as head
-use Rattle.msgpack.specs.declared.Skipped.{Skipped}
-use Rattle.msgpack.specs.declared.Skipped.TheVariants.{Past, Bad}
 
 -- what a head says of places: after `at`, in order, and at most `end`
 abbrev pub Ahead : ℕ → ℕ → Head → Type 0
@@ -80,24 +79,24 @@ head_ahead at end [] h = tt
 head_ahead at end (b ∷ t) h = by_form at end (form_of b) t h
 
 -- what a skip says of places
-abbrev pub Within : ℕ → ℕ → Skipped → Type 0
-Within at end (Past p) = (at ≤ p) × (p ≤ end)
-Within at end (Bad q) = Unit {0}
+abbrev pub Within : ℕ → ℕ → Result ℕ ℕ → Type 0
+Within at end (Ok p) = (at ≤ p) × (p ≤ end)
+Within at end (Err q) = Unit {0}
 
-later : (a b end : ℕ) (r : Skipped) → a ≤ b → Within b end r → Within a end r
-later a b end (Past p) h w = (omega arith, w.1)
-later a b end (Bad q) h w = tt
+later : (a b end : ℕ) (r : Result ℕ ℕ) → a ≤ b → Within b end r → Within a end r
+later a b end (Ok p) h w = (omega arith, w.1)
+later a b end (Err q) h w = tt
 
-on : (at end : ℕ) (r : Skipped) (k : ℕ → Skipped) → Within at end r → ((p : ℕ) → p ≤ end → Within p end (k p)) → Within at end (after r k)
-on at end (Past p) k w f = later at p end (k p) w.0 (f p w.1)
-on at end (Bad q) k w f = tt
+on : (at end : ℕ) (r : Result ℕ ℕ) (k : ℕ → Result ℕ ℕ) → Within at end r → ((p : ℕ) → p ≤ end → Within p end (k p)) → Within at end (after r k)
+on at end (Ok p) k w f = later at p end (k p) w.0 (f p w.1)
+on at end (Err q) k w f = tt
 
-pub many_within : (one : ℕ → Skipped) (end : ℕ) → ((p : ℕ) → p ≤ end → Within p end (one p)) → (n at : ℕ) → at ≤ end → Within at end (many_of one n at)
+pub many_within : (one : ℕ → Result ℕ ℕ) (end : ℕ) → ((p : ℕ) → p ≤ end → Within p end (one p)) → (n at : ℕ) → at ≤ end → Within at end (many_of one n at)
 unfolding many_of
 many_within one end f zero at h = omega arith
 many_within one end f (suc n) at h = on at end (one at) (λ p. many_of one n p) (f at h) (λ p l. many_within one end f n p l)
 
-skip_within : (at end : ℕ) (g : ℕ → ℕ → Skipped) → ((n p : ℕ) → p ≤ end → Within p end (g n p)) → (h : Head) → Ahead at end h → Within (suc at) end (skip_head at g h)
+skip_within : (at end : ℕ) (g : ℕ → ℕ → Result ℕ ℕ) → ((n p : ℕ) → p ≤ end → Within p end (g n p)) → (h : Head) → Ahead at end h → Within (suc at) end (skip_head at g h)
 unfolding skip_head
 skip_within at end g f head.Cut a = tt
 skip_within at end g f head.Never a = tt
@@ -114,7 +113,7 @@ skip_within at end g f (head.Map n p) a = later (suc at) p end (after (g n p) (�
 pub value_within : (s : List ℕ) (room at : ℕ) → at ≤ length s → Within (suc at) (length s) (value_of s room at)
 unfolding value_of
 value_within s zero at h =
-    skip_within at (length s) (λ n p. Bad at) (λ n p l. tt) (head_of at (drop at s)) (head_ahead at (length s) (drop at s) (simp length-drop (omega arith)))
+    skip_within at (length s) (λ n p. Err at) (λ n p l. tt) (head_of at (drop at s)) (head_ahead at (length s) (drop at s) (simp length-drop (omega arith)))
 value_within s (suc r) at h =
     skip_within at (length s) (λ n p. many_of (λ p. value_of s r p) n p)
     (λ n p l. many_within (λ p. value_of s r p) (length s) (λ q k. later q (suc q) (length s) (value_of s r q) (omega arith) (value_within s r q k)) n p l)
@@ -128,12 +127,12 @@ split a b = go (ltb a b) refl
     go false e = inr (ltb-false a b e)
 
 -- past the end nothing is skipped
-beyond : (s : List ℕ) (room p : ℕ) → length s ≤ p → value_of s room p ≡ Bad p
+beyond : (s : List ℕ) (room p : ℕ) → length s ≤ p → value_of s room p ≡ Err p
 unfolding head_of skip_head
-beyond s room p h = value_flat s room p head.Cut head.Cut (Bad p) (rw (drop_of_length-le s h)) refl (λ g. refl)
+beyond s room p h = value_flat s room p head.Cut head.Cut (Err p) (rw (drop_of_length-le s h)) refl (λ g. refl)
 
 -- of a value that was skipped, from wherever
-pub past_within : (s : List ℕ) (room p q : ℕ) → value_of s room p ≡ Past q → (p < q) × (q ≤ length s)
+pub past_within : (s : List ℕ) (room p q : ℕ) → value_of s room p ≡ Ok q → (p < q) × (q ≤ length s)
 past_within s room p q e =
     ⊎_elim (λ h. rw e at (value_within s room p (le_of_lt h)))
     (λ h. let b = beyond s room p h in let z : ◌≡◌ {A = ℕ} 0 1 = cc in absurd (omega arith))

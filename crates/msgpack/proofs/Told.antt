@@ -1,5 +1,6 @@
 -- What is known of what was read: the next place is behind its own and within the bytes, the number within its range, and what is
 -- wrong is wrong at its start.
+use Rattle.std.specs.Prelude.{Err, Ok, Result}
 use mathlib.Core.Path.{◌≡◌, refl}
 use mathlib.Core.Bool.{Bool, true, false}
 use mathlib.Core.List.{List}
@@ -12,12 +13,6 @@ use Rattle.msgpack.specs.Head.{head_of}
 use Rattle.msgpack.specs.Read.{uint_by, uint_at, bin_by, bin_at, group_by, group_at}
 use Rattle.msgpack.specs.declared.Head.{Head}
 use Rattle.msgpack.specs.declared.Head.TheVariants as head
-use Rattle.msgpack.specs.declared.Uint.{Uint}
-use Rattle.msgpack.specs.declared.Uint.TheVariants as uint
-use Rattle.msgpack.specs.declared.Bin.{Bin}
-use Rattle.msgpack.specs.declared.Bin.TheVariants as bin
-use Rattle.msgpack.specs.declared.Group.{Group}
-use Rattle.msgpack.specs.declared.Group.TheVariants as group
 use Rattle.msgpack.proofs.Ahead.{Ahead, head_within}
 
 -- behind `at`, and at most `end`
@@ -33,9 +28,9 @@ module _ {B : Type 0} (P : B → Type 0) (good bad : B) (x y : ℕ) where
       go true e = g (leb-true x y e)
       go false e = b
 
-abbrev pub UintTold : ℕ → ℕ → ℕ → Uint → Type 0
-UintTold at end most (uint.Is x p) = (x ≤ most) × Next at end p
-UintTold at end most (uint.Wrong q) = q ≡ at
+abbrev pub UintTold : ℕ → ℕ → ℕ → Result (ℕ × ℕ) ℕ → Type 0
+UintTold at end most (Ok (x, p)) = (x ≤ most) × Next at end p
+UintTold at end most (Err q) = q ≡ at
 
 uint_by_lem : (at end most : ℕ) (h : Head) → Ahead at end h → UintTold at end most (uint_by at most h)
 unfolding uint_by
@@ -43,7 +38,7 @@ uint_by_lem at end most head.Cut a = refl
 uint_by_lem at end most head.Never a = refl
 uint_by_lem at end most (head.Nil p) a = refl
 uint_by_lem at end most (head.Flag b p) a = refl
-uint_by_lem at end most (head.Uint x p) a = tested (UintTold at end most) (uint.Is x p) (uint.Wrong at) x most (λ k. (k, a)) refl
+uint_by_lem at end most (head.Uint x p) a = tested (UintTold at end most) (Ok (x, p)) (Err at) x most (λ k. (k, a)) refl
 uint_by_lem at end most (head.Minus m p) a = refl
 uint_by_lem at end most (head.Bin f n p) a = refl
 uint_by_lem at end most (head.Other p) a = refl
@@ -54,9 +49,9 @@ pub uint_told : (s : List ℕ) (at most : ℕ) → UintTold at (length s) most (
 unfolding uint_at
 uint_told s at most = uint_by_lem at (length s) most (head_of at (drop at s)) (head_within s at)
 
-abbrev pub GroupTold : ℕ → ℕ → ℕ → Group → Type 0
-GroupTold at end least (group.Of n p) = (least ≤ n) × Next at end p
-GroupTold at end least (group.Wrong q) = q ≡ at
+abbrev pub GroupTold : ℕ → ℕ → ℕ → Result (ℕ × ℕ) ℕ → Type 0
+GroupTold at end least (Ok (n, p)) = (least ≤ n) × Next at end p
+GroupTold at end least (Err q) = q ≡ at
 
 group_by_lem : (at end least : ℕ) (h : Head) → Ahead at end h → GroupTold at end least (group_by at least h)
 unfolding group_by
@@ -68,7 +63,7 @@ group_by_lem at end least (head.Uint x p) a = refl
 group_by_lem at end least (head.Minus m p) a = refl
 group_by_lem at end least (head.Bin f n p) a = refl
 group_by_lem at end least (head.Other p) a = refl
-group_by_lem at end least (head.Array n p) a = tested (GroupTold at end least) (group.Of n p) (group.Wrong at) least n (λ k. (k, a)) refl
+group_by_lem at end least (head.Array n p) a = tested (GroupTold at end least) (Ok (n, p)) (Err at) least n (λ k. (k, a)) refl
 group_by_lem at end least (head.Map n p) a = refl
 
 pub group_told : (s : List ℕ) (at least : ℕ) → GroupTold at (length s) least (group_at s at least)
@@ -76,9 +71,9 @@ unfolding group_at
 group_told s at least = group_by_lem at (length s) least (head_of at (drop at s)) (head_within s at)
 
 -- the bytes of a bin lie within the input, and end where the next value starts
-abbrev pub BinTold : ℕ → ℕ → Bin → Type 0
-BinTold at end (bin.Is f n p) = (at < f) × (p ≡ f + n) × (p ≤ end)
-BinTold at end (bin.Wrong q) = q ≡ at
+abbrev pub BinTold : ℕ → ℕ → Result (ℕ × ℕ × ℕ) ℕ → Type 0
+BinTold at end (Ok (f, n, p)) = (at < f) × (p ≡ f + n) × (p ≤ end)
+BinTold at end (Err q) = q ≡ at
 
 bin_by_lem : (at end : ℕ) (h : Head) → Ahead at end h → BinTold at end (bin_by at h)
 unfolding bin_by
@@ -98,11 +93,11 @@ unfolding bin_at
 bin_told s at = bin_by_lem at (length s) (head_of at (drop at s)) (head_within s at)
 
 -- the same of an answer in hand
-pub uint_within : (s : List ℕ) (at most x p : ℕ) → uint_at s at most ≡ uint.Is x p → (x ≤ most) × Next at (length s) p
+pub uint_within : (s : List ℕ) (at most x p : ℕ) → uint_at s at most ≡ Ok (x, p) → (x ≤ most) × Next at (length s) p
 uint_within s at most x p e = rw e at (uint_told s at most)
 
-pub group_within : (s : List ℕ) (at least n p : ℕ) → group_at s at least ≡ group.Of n p → (least ≤ n) × Next at (length s) p
+pub group_within : (s : List ℕ) (at least n p : ℕ) → group_at s at least ≡ Ok (n, p) → (least ≤ n) × Next at (length s) p
 group_within s at least n p e = rw e at (group_told s at least)
 
-pub bin_within : (s : List ℕ) (at f n p : ℕ) → bin_at s at ≡ bin.Is f n p → (at < f) × (p ≡ f + n) × (p ≤ length s)
+pub bin_within : (s : List ℕ) (at f n p : ℕ) → bin_at s at ≡ Ok (f, n, p) → (at < f) × (p ≡ f + n) × (p ≤ length s)
 bin_within s at f n p e = rw e at (bin_told s at)

@@ -19,10 +19,8 @@ pub fn number(s: &[u8], at: usize, n: usize) -> u64
     ensures { (result ≡ be (take n (drop at s.now))) × (result < 256 ^ n) }
 {
     let mut x: u64 = 0;
-    let mut i: usize = 0;
-    while i < n {
+    for i in 0..n {
         x = x * 256 + wide(s[at + i]);
-        i += 1;
     }
     x
 }

@@ -54,66 +54,7 @@ pub enum Head {
     Map(u64, usize),
 }
 
-// The place after what was skipped, or the start of the first innermost bad value.
-#[derive(Clone, Copy)]
-pub enum Skipped {
-    Past(usize),
-    Bad(usize),
-}
-
 // How many levels of arrays and maps a value may have.
 const DEEPEST: usize = 16;
 
-#[derive(Clone, Copy)]
-pub enum Whole {
-    Good,
-    Bad(usize),
-}
-
-#[derive(Clone, Copy)]
-pub enum Uint {
-    Is(u64, usize),
-    Wrong(usize),
-}
-
-#[derive(Clone, Copy)]
-pub enum Int {
-    Is(i64, usize),
-    Wrong(usize),
-}
-
 const HALF: u64 = 0x8000_0000_0000_0000;
-
-#[derive(Clone, Copy)]
-pub enum Flag {
-    Is(bool, usize),
-    Wrong(usize),
-}
-
-// The first place and the length of the bytes, which stay where they are.
-#[derive(Clone, Copy)]
-pub enum Bin {
-    Is(usize, usize, usize),
-    Wrong(usize),
-}
-
-// The halves of 16 bytes.
-#[derive(Clone, Copy)]
-pub enum Id {
-    Is(u64, u64, usize),
-    Wrong(usize),
-}
-
-// An array: the count of its elements, and the place of the first.
-#[derive(Clone, Copy)]
-pub enum Group {
-    Of(u64, usize),
-    Wrong(usize),
-}
-
-// Nil, with the place after it; or something, at the place itself.
-#[derive(Clone, Copy)]
-pub enum Optional {
-    Absent(usize),
-    Present,
-}

@@ -1,4 +1,5 @@
 -- Worked examples, which antt computes.
+use Rattle.std.specs.Prelude.{Err, Ok}
 use mathlib.Core.Path.{◌≡◌, refl}
 use mathlib.Core.Bool.{true}
 use mathlib.Core.List.{List, [], ◌∷◌, ◌++◌}
@@ -10,7 +11,6 @@ use Rattle.msgpack.specs.Form.{form_of}
 use Rattle.msgpack.specs.Head.{kind_head, head_by, head_of}
 use Rattle.msgpack.specs.Skip.{many_of, skip_head, value_of, whole_of}
 use Rattle.msgpack.specs.declared.Head.TheVariants as head
-use Rattle.msgpack.specs.declared.Whole.TheVariants.{Good, Bad}
 use Rattle.msgpack_put.specs.Write.{uint_bytes, minus_bytes, int_bytes, array_bytes, bin_head, bin_bytes}
 
 -- ---- heads, as the public specification draws them
@@ -79,7 +79,7 @@ compact : List ℕ
 compact =
     0x82 ∷ 0xa7 ∷ 0x63 ∷ 0x6f ∷ 0x6d ∷ 0x70 ∷ 0x61 ∷ 0x63 ∷ 0x74 ∷ 0xc3 ∷ 0xa6 ∷ 0x73 ∷ 0x63 ∷ 0x68 ∷ 0x65 ∷ 0x6d ∷ 0x61 ∷ 0x00 ∷ []
 
-compact_whole : whole_of compact ≡ Good
+compact_whole : whole_of compact ≡ Ok tt
 unfolding compact whole_of value_of skip_head many_of head_of head_by kind_head form_of be_from
 compact_whole = refl
 
@@ -89,27 +89,27 @@ new =
     0x9c ∷ 0xc3 ∷ 0x94 ∷ 0xc0 ∷ 0xc0 ∷ 0x90 ∷ 0x90 ∷ 0x90 ∷ 0xc0 ∷ 0x01 ∷ 0x00 ∷ 0xd3 ∷ 0x80 ∷ 0x00 ∷ 0x00 ∷ 0x00 ∷ 0x00 ∷ 0x00 ∷ 0x00 ∷ 0x00
     ∷ 0x00 ∷ 0x00 ∷ 0x90 ∷ 0x00 ∷ 0x00 ∷ []
 
-new_whole : whole_of new ≡ Good
+new_whole : whole_of new ≡ Ok tt
 unfolding new whole_of value_of skip_head many_of head_of head_by kind_head form_of be_from
 new_whole = refl
 
 -- "the missing one starts at the end", and so does the whole of an empty input
-places : (whole_of [] ≡ Bad 0) × (whole_of (0x93 ∷ 0x01 ∷ []) ≡ Bad 2) × (whole_of (0x81 ∷ 0x01 ∷ []) ≡ Bad 2)
+places : (whole_of [] ≡ Err 0) × (whole_of (0x93 ∷ 0x01 ∷ []) ≡ Err 2) × (whole_of (0x81 ∷ 0x01 ∷ []) ≡ Err 2)
 unfolding whole_of value_of skip_head many_of head_of head_by kind_head form_of be_from
 places = (refl, refl, refl)
 
 -- a cut value is bad at its own first byte, and so is c1; what is left over is bad at its start
-starts : (whole_of (0x92 ∷ 0xc4 ∷ 0x05 ∷ 0x01 ∷ []) ≡ Bad 1) × (whole_of (0xdf ∷ 0x00 ∷ []) ≡ Bad 0) × (whole_of (0x92 ∷ 0x01 ∷ 0xc1 ∷ []) ≡ Bad 2) × (whole_of (0xc0 ∷ 0xc0 ∷ []) ≡ Bad 1)
+starts : (whole_of (0x92 ∷ 0xc4 ∷ 0x05 ∷ 0x01 ∷ []) ≡ Err 1) × (whole_of (0xdf ∷ 0x00 ∷ []) ≡ Err 0) × (whole_of (0x92 ∷ 0x01 ∷ 0xc1 ∷ []) ≡ Err 2) × (whole_of (0xc0 ∷ 0xc0 ∷ []) ≡ Err 1)
 unfolding whole_of value_of skip_head many_of head_of head_by kind_head form_of be_from
 starts = (refl, refl, refl, refl)
 
 -- a scalar inside depth 16 is fine; an array that would be depth 17 is bad at its start, empty or not
-depth : (whole_of (replicate 16 0x91 ++ (0xc0 ∷ [])) ≡ Good) × (whole_of (replicate 16 0x91 ++ (0x90 ∷ [])) ≡ Bad 16) × (whole_of (replicate 17 0x91 ++ (0xc0 ∷ [])) ≡ Bad 16)
+depth : (whole_of (replicate 16 0x91 ++ (0xc0 ∷ [])) ≡ Ok tt) × (whole_of (replicate 16 0x91 ++ (0x90 ∷ [])) ≡ Err 16) × (whole_of (replicate 17 0x91 ++ (0xc0 ∷ [])) ≡ Err 16)
 unfolding whole_of value_of skip_head many_of head_of head_by kind_head form_of be_from
 depth = (refl, refl, refl)
 
 -- an array of 4,294,967,295 elements, of which one is there
-huge : whole_of (0xdd ∷ 0xff ∷ 0xff ∷ 0xff ∷ 0xff ∷ 0xc0 ∷ []) ≡ Bad 6
+huge : whole_of (0xdd ∷ 0xff ∷ 0xff ∷ 0xff ∷ 0xff ∷ 0xc0 ∷ []) ≡ Err 6
 unfolding whole_of value_of skip_head many_of head_of head_by kind_head form_of be_from
 huge = refl
 

@@ -1,4 +1,5 @@
 -- What is written is well-formed by the public specification, part by part, with any room left.
+use Rattle.std.specs.Prelude.{Ok, Result}
 use mathlib.Core.Path.{◌≡◌, refl, sym, ap, ◌∙◌}
 use mathlib.Core.Bool.{Bool}
 use mathlib.Core.List.{List, [], ◌∷◌, ◌++◌, append_assoc, append-nil}
@@ -14,9 +15,6 @@ use Rattle.keys.specs.BigEndian.{be_bytes}
 use Rattle.msgpack.specs.Head.{head_of}
 use Rattle.msgpack.specs.Skip.{after, many_of, skip_head, value_of, deepest, whole_end, whole_of}
 use Rattle.msgpack.specs.declared.Head.{Head}
-use Rattle.msgpack.specs.declared.Skipped.{Skipped}
-use Rattle.msgpack.specs.declared.Skipped.TheVariants.{Past}
-use Rattle.msgpack.specs.declared.Whole.TheVariants as whole
 use Rattle.msgpack.proofs.Skips.{value_flat, value_open}
 use Rattle.msgpack_put.specs.Write.{uint_bytes, int_bytes, flag_bytes, nil_bytes, array_bytes, bin_head, bin_bytes, id_part, concat, group_bytes}
 use Rattle.msgpack_put.proofs.Puts.{id_length}
@@ -25,7 +23,7 @@ use Rattle.msgpack_put.proofs.Back.{on}
 
 -- wherever bs stands, it is one value, and opens at most `room` levels
 abbrev pub Well : ℕ → List ℕ → Type 0
-Well room bs = (s : List ℕ) (at : ℕ) (post : List ℕ) → drop at s ≡ bs ++ post → value_of s room at ≡ Past (at + length bs)
+Well room bs = (s : List ℕ) (at : ℕ) (post : List ℕ) → drop at s ≡ bs ++ post → value_of s room at ≡ Ok (at + length bs)
 
 abbrev pub Wells : ℕ → List (List ℕ) → Type 0
 Wells room [] = Unit {0}
@@ -33,7 +31,7 @@ Wells room (b ∷ bs) = Well room b × Wells room bs
 
 -- what reads as no array and no map
 flat : (room : ℕ) (bs : List ℕ) (h : ℕ → List ℕ → Head) → ((at : ℕ) (post : List ℕ) → head_of at (bs ++ post) ≡ h at post)
-    → ((at : ℕ) (post : List ℕ) (g : ℕ → ℕ → Skipped) → skip_head at g (h at post) ≡ Past (at + length bs)) → Well room bs
+    → ((at : ℕ) (post : List ℕ) (g : ℕ → ℕ → Result ℕ ℕ) → skip_head at g (h at post) ≡ Ok (at + length bs)) → Well room bs
 flat room bs h r k s at post e =
     value_flat s room at (head_of at (drop at s)) (h at post) _ refl (ap (λ (l : List ℕ). head_of at l) e ∙ r at post) (k at post)
 
@@ -59,20 +57,20 @@ module _ (room : ℕ) where
   unfolding skip_head
   well_bin bs h =
       flat room (bin_bytes bs) _ (λ at post. bin_round at post bs h)
-      (λ at post g. ap Past (omega (arith, length-append (bin_head (length bs)) bs)))
+      (λ at post g. ap Ok (omega (arith, length-append (bin_head (length bs)) bs)))
 
   pub well_id : (hi lo : ℕ) → Well room (id_part hi lo)
   well_id hi lo = well_bin (be_bytes 8 hi ++ be_bytes 8 lo) (omega (arith, id_length hi lo))
 
 many_well : (room : ℕ) (bss : List (List ℕ)) → Wells room bss → (s : List ℕ) (at : ℕ) (post : List ℕ) → drop at s ≡ concat bss ++ post
-    → many_of (value_of s room) (length bss) at ≡ Past (at + length (concat bss))
+    → many_of (value_of s room) (length bss) at ≡ Ok (at + length (concat bss))
 unfolding concat many_of
-many_well room [] w s at post e = ap Past (omega arith)
+many_well room [] w s at post e = ap Ok (omega arith)
 many_well room (b ∷ bss) w s at post e =
     let e' : drop at s ≡ b ++ (concat bss ++ post) = e ∙ append_assoc b (concat bss) post in
-    ap (λ (r : Skipped). after r (λ p. many_of (value_of s room) (length bss) p)) (w.0 s at (concat bss ++ post) e')
+    ap (λ (r : Result ℕ ℕ). after r (λ p. many_of (value_of s room) (length bss) p)) (w.0 s at (concat bss ++ post) e')
     ∙ many_well room bss w.1 s (at + length b) post (on s at b (concat bss ++ post) e')
-    ∙ ap Past (omega (arith, length-append b (concat bss)))
+    ∙ ap Ok (omega (arith, length-append b (concat bss)))
 
 -- a group of well-formed values is one, a level up
 pub well_group : (room : ℕ) (bss : List (List ℕ)) → length bss < 2 ^ 32 → Wells room bss → Well (suc room) (group_bytes bss)
@@ -84,11 +82,11 @@ well_group room bss h w s at post e =
     value_open s (suc room) at (head_of at (drop at s)) _ refl (ap (λ (l : List ℕ). head_of at l) e' ∙ array_round at (concat bss ++ post) n h) (λ z. omega arith)
     ∙ ap (λ (k : ℕ). many_of (value_of s k) n (at + length (array_bytes n))) r
     ∙ many_well room bss w s (at + length (array_bytes n)) post (on s at (array_bytes n) (concat bss ++ post) e')
-    ∙ ap Past (omega (arith, length-append (array_bytes n) (concat bss)))
+    ∙ ap Ok (omega (arith, length-append (array_bytes n) (concat bss)))
 
 -- the whole of what is written passes
-pub well_whole : (bs : List ℕ) → Well deepest bs → whole_of bs ≡ whole.Good
+pub well_whole : (bs : List ℕ) → Well deepest bs → whole_of bs ≡ Ok tt
 unfolding whole_of
 well_whole bs w =
-    ap (λ (r : Skipped). whole_end (length bs) r) (w bs 0 [] (sym (append-nil bs)) ∙ ap Past (zero-add (length bs)))
+    ap (λ (r : Result ℕ ℕ). whole_end (length bs) r) (w bs 0 [] (sym (append-nil bs)) ∙ ap Ok (zero-add (length bs)))
     ∙ simp (le-ltb (length bs) (length bs) (le_refl (length bs)))

@@ -4,6 +4,8 @@ use Rattle.std.proofs.lemmas.List.Edits.{sets}
 use Rattle.keys.specs.Pick.{pick}
 use Rattle.keys.specs.BigEndian.{be_bytes}
 use Rattle.ids.specs.Id.{id_bytes}
+use Rattle.msgpack_put.specs.declared.Head.{Head}
+use Rattle.msgpack_put.specs.declared.Head.TheVariants.{Nil, Flag, Uint, Minus, Array, Bin}
 use Rattle.msgpack_put.specs.declared.Tagged.{Tagged}
 
 -- a number that is not negative: "00-7f positive fixint: the value is the byte", "cc, cd, ce, cf uint 8, 16, 32, 64: 1, 2, 4, 8 bytes"
@@ -46,6 +48,15 @@ array_bytes n = pick (ltb n 0x10) ((0x90 + n) ∷ []) (pick (ltb n 0x1_0000) (0x
 -- what stands before the n bytes of a bin: "c4, c5, c6 bin 8, 16, 32: N in 1, 2, 4 bytes"
 unfoldable pub bin_head : ℕ → List ℕ
 bin_head n = pick (ltb n 0x100) (0xc4 ∷ be_bytes 1 n) (pick (ltb n 0x1_0000) (0xc5 ∷ be_bytes 2 n) (0xc6 ∷ be_bytes 4 n))
+
+-- what of these a head stands for
+abbrev pub head_bytes : Head → List ℕ
+head_bytes Nil = nil_bytes
+head_bytes (Flag b) = flag_bytes b
+head_bytes (Uint x) = uint_bytes x
+head_bytes (Minus m) = minus_bytes m
+head_bytes (Array n) = array_bytes n
+head_bytes (Bin n) = bin_head n
 
 -- "ids, keys, names and paths are bin"
 abbrev pub bin_bytes : List ℕ → List ℕ

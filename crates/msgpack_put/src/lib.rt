@@ -1,14 +1,38 @@
 // MessagePack, written: shortest forms into a lent slice. Every writer asks for the room that it fills, stores its bytes
-// at a place, and answers the place after them; every `_len` says how many bytes its writer fills.
+// at a place, and answers the place after them; `head_len` says how many bytes `put_head` fills.
 #![tactic(auto)]
 
-ghost use Rattle.std.specs.Prelude.{◌≡◌, [], ◌∷◌, ◌+◌, ◌≤◌, ◌<◌, length, take, drop};
+ghost use Rattle.std.specs.Prelude.{◌≡◌, ◌+◌, ◌≤◌, ◌<◌, length, take, drop};
 ghost use Rattle.std.proofs.lemmas.List.Edits.{sets};
 ghost use Rattle.keys.specs.BigEndian.{be_bytes};
 ghost use Rattle.msgpack_put.specs.Sign.{sign_of};
-ghost use Rattle.msgpack_put.specs.Write.{uint_bytes, minus_bytes, int_bytes, flag_bytes, nil_bytes, array_bytes, bin_head, bin_bytes, id_part, tagged_bytes, Put};
+ghost use Rattle.msgpack_put.specs.Write.{uint_bytes, minus_bytes, array_bytes, bin_head, head_bytes, bin_bytes, id_part, tagged_bytes, Put};
 
-// ---- the shortest form
+// A nil, a flag, a number that is not negative, minus one minus a number; or what stands before the elements of an array
+// or the bytes of a bin, by how many they are.
+#[derive(Clone, Copy)]
+pub enum Head {
+    Nil,
+    Flag(bool),
+    Uint(u64),
+    Minus(u64),
+    Array(u64),
+    Bin(u64),
+}
+
+// A signed number.
+// inner
+pub fn sign_of(x: i64) -> Head
+    ensures { result ≡ sign_of x }
+{
+    if x < 0 {
+        Head::Minus((-1 - x) as u64)
+    } else {
+        Head::Uint(x as u64)
+    }
+}
+
+// ---- the shortest form: each kind has first bytes and limits of its own, and one form over a table of them would be no plainer
 
 // A first byte, the width of the number after it, and that number.
 #[derive(Clone, Copy)]
@@ -51,32 +75,6 @@ fn minus_form(m: u64) -> Tagged
     Tagged(0xd3, 8, 0xffff_ffff_ffff_ffff - m)
 }
 
-// Not negative, or minus one minus the number.
-#[derive(Clone, Copy)]
-enum Sign {
-    Plus(u64),
-    Minus(u64),
-}
-
-fn sign_of(x: i64) -> Sign
-    ensures { result ≡ sign_of x }
-{
-    if x < 0 {
-        Sign::Minus((-1 - x) as u64)
-    } else {
-        Sign::Plus(x as u64)
-    }
-}
-
-fn int_form(x: i64) -> Tagged
-    ensures { (int_bytes x ≡ tagged_bytes result) × (result.1 ≤ 8) }
-{
-    match sign_of(x) {
-        Sign::Plus(n) => uint_form(n),
-        Sign::Minus(m) => minus_form(m),
-    }
-}
-
 fn array_form(n: u64) -> Tagged
     ensures { (array_bytes n ≡ tagged_bytes result) × (result.1 ≤ 8) }
 {
@@ -101,34 +99,26 @@ fn bin_form(n: u64) -> Tagged
     Tagged(0xc6, 4, n)
 }
 
-// ---- how many bytes are written
-
-pub fn uint_len(x: u64) -> usize
-    ensures { result ≡ length (uint_bytes x) }
+#[tactic(auto, unfolding(keys::specs::BigEndian::be_bytes))]
+fn form(h: Head) -> Tagged
+    ensures { (head_bytes h ≡ tagged_bytes result) × (result.1 ≤ 8) }
 {
-    let t = uint_form(x);
-    1 + t.1
+    match h {
+        Head::Nil => Tagged(0xc0, 0, 0),
+        Head::Flag(false) => Tagged(0xc2, 0, 0),
+        Head::Flag(true) => Tagged(0xc3, 0, 0),
+        Head::Uint(x) => uint_form(x),
+        Head::Minus(m) => minus_form(m),
+        Head::Array(n) => array_form(n),
+        Head::Bin(n) => bin_form(n),
+    }
 }
 
-pub fn int_len(x: i64) -> usize
-    ensures { result ≡ length (int_bytes x) }
+// How many bytes are written.
+pub fn head_len(h: Head) -> usize
+    ensures { result ≡ length (head_bytes h) }
 {
-    let t = int_form(x);
-    1 + t.1
-}
-
-pub fn array_len(n: u64) -> usize
-    ensures { result ≡ length (array_bytes n) }
-{
-    let t = array_form(n);
-    1 + t.1
-}
-
-// What a bin of n bytes takes besides them.
-pub fn bin_head_len(n: u64) -> usize
-    ensures { result ≡ length (bin_head n) }
-{
-    let t = bin_form(n);
+    let t = form(h);
     1 + t.1
 }
 
@@ -140,9 +130,7 @@ fn put_number(out: &mut [u8], at: usize, n: usize, x: u64)
     ensures { out.new ≡ sets out.old at (be_bytes n x) }
 {
     let mut y = x;
-    let mut i = n;
-    while 0 < i {
-        i -= 1;
+    for i in (0..n).rev() {
         out[at + i] = (y % 256) as u8;
         y /= 256;
     }
@@ -159,76 +147,20 @@ fn put_tagged(out: &mut [u8], at: usize, t: Tagged) -> usize
 }
 
 // inner
-pub fn put_uint(out: &mut [u8], at: usize, x: u64) -> usize
-    requires { at + length (uint_bytes x) ≤ length out.old }
-    ensures { Put out.old at (uint_bytes x) result out.new }
+pub fn put_head(out: &mut [u8], at: usize, h: Head) -> usize
+    requires { at + length (head_bytes h) ≤ length out.old }
+    ensures { Put out.old at (head_bytes h) result out.new }
 {
-    let t = uint_form(x);
+    let t = form(h);
     put_tagged(out, at, t)
-}
-
-// inner
-pub fn put_int(out: &mut [u8], at: usize, x: i64) -> usize
-    requires { at + length (int_bytes x) ≤ length out.old }
-    ensures { Put out.old at (int_bytes x) result out.new }
-{
-    let t = int_form(x);
-    put_tagged(out, at, t)
-}
-
-// The head of an array of n elements.
-// inner
-pub fn put_array(out: &mut [u8], at: usize, n: u64) -> usize
-    requires { at + length (array_bytes n) ≤ length out.old }
-    ensures { Put out.old at (array_bytes n) result out.new }
-{
-    let t = array_form(n);
-    put_tagged(out, at, t)
-}
-
-fn put_bin_head(out: &mut [u8], at: usize, n: u64) -> usize
-    requires { at + length (bin_head n) ≤ length out.old }
-    ensures { Put out.old at (bin_head n) result out.new }
-{
-    let t = bin_form(n);
-    put_tagged(out, at, t)
-}
-
-fn put_byte(out: &mut [u8], at: usize, b: u8) -> usize
-    requires { at < length out.old }
-    ensures { Put out.old at (b ∷ []) result out.new }
-{
-    out[at] = b;
-    at + 1
-}
-
-// inner
-pub fn put_nil(out: &mut [u8], at: usize) -> usize
-    requires { at + length nil_bytes ≤ length out.old }
-    ensures { Put out.old at nil_bytes result out.new }
-{
-    put_byte(out, at, 0xc0)
-}
-
-// inner
-pub fn put_flag(out: &mut [u8], at: usize, b: bool) -> usize
-    requires { at + length (flag_bytes b) ≤ length out.old }
-    ensures { Put out.old at (flag_bytes b) result out.new }
-{
-    if b {
-        return put_byte(out, at, 0xc3);
-    }
-    put_byte(out, at, 0xc2)
 }
 
 fn put_part(out: &mut [u8], at: usize, pool: &[u8], from: usize, n: usize)
     requires { (at + n ≤ length out.old) × (from + n ≤ length pool.now) }
     ensures { out.new ≡ sets out.old at (take n (drop from pool.now)) }
 {
-    let mut i = 0;
-    while i < n {
+    for i in 0..n {
         out[at + i] = pool[from + i];
-        i += 1;
     }
 }
 
@@ -238,7 +170,7 @@ pub fn put_bin(out: &mut [u8], at: usize, pool: &[u8], from: usize, n: usize) ->
     requires { (at + length (bin_bytes (take n (drop from pool.now))) ≤ length out.old) × (from + n ≤ length pool.now) }
     ensures { Put out.old at (bin_bytes (take n (drop from pool.now))) result out.new }
 {
-    let p = put_bin_head(out, at, n as u64);
+    let p = put_head(out, at, Head::Bin(n as u64));
     put_part(out, p, pool, from, n);
     p + n
 }
@@ -249,7 +181,7 @@ pub fn put_id(out: &mut [u8], at: usize, hi: u64, lo: u64) -> usize
     requires { at + length (id_part hi lo) ≤ length out.old }
     ensures { Put out.old at (id_part hi lo) result out.new }
 {
-    let p = put_bin_head(out, at, 16);
+    let p = put_head(out, at, Head::Bin(16));
     put_number(out, p, 8, hi);
     put_number(out, p + 8, 8, lo);
     p + 16

@@ -2,7 +2,7 @@
 // implementation say; the file stdout is what that one said.
 #![tactic(auto)]
 
-use msgpack::Kind;
+use msgpack::{Form, Kind};
 use std::io;
 
 // A kind, then its number, or the width of the number after the first byte.
@@ -16,11 +16,8 @@ fn sized(rt: &impl Print, name: &str, w: usize, n: u64) -> io::Result<()> {
 
 fn show(rt: &impl Print, b: u8) -> io::Result<()> {
     print!(rt; "{b:02x}")?;
-    let f = msgpack::form_of(b);
-    let w = f.1;
-    let n = f.2;
-    let k = f.0;
-    match k {
+    let Form(kind, w, n) = msgpack::form_of(b);
+    match kind {
         Kind::Never => print!(rt; " never"),
         Kind::Nil => print!(rt; " nil"),
         Kind::False => print!(rt; " false"),

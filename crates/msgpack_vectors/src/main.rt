@@ -2,9 +2,7 @@
 // what it is, or where it is bad; the file stdout is what the outside implementation said.
 #![tactic(auto)]
 
-ghost use Rattle.std.specs.Prelude.{◌<◌};
-
-use msgpack::{Head, Whole};
+use msgpack::Head;
 use std::io;
 use std::io::Read;
 
@@ -33,29 +31,21 @@ fn value(rt: &impl Print, s: &[u8]) -> io::Result<()> {
 
 fn vector(rt: &impl Print, s: &[u8]) -> io::Result<()> {
     match msgpack::well_formed(s) {
-        Whole::Good => value(rt, s)?,
-        Whole::Bad(p) => named(rt, "bad ", p as u64)?,
+        Ok(()) => value(rt, s)?,
+        Err(p) => named(rt, "bad ", p as u64)?,
     }
     println!(rt)
 }
 
-fn wide(b: u8) -> usize
-    ensures { result < 256 }
-{
-    b as usize
-}
-
 fn vectors(rt: &impl Print, s: &[u8]) -> io::Result<()> {
-    let mut at = 0;
-    while 2 <= s.len() - at {
-        let from = at + 2;
-        let n = wide(s[at]) * 256 + wide(s[at + 1]);
-        if s.len() - from < n {
+    let mut rest = s;
+    while let [high, low, behind @ ..] = rest {
+        let n = *high as usize * 256 + *low as usize;
+        if behind.len() < n {
             return Ok(());
         }
-        let end = from + n;
-        vector(rt, &s[from..end])?;
-        at = end;
+        vector(rt, &behind[..n])?;
+        rest = &behind[n..];
     }
     Ok(())
 }

@@ -1,4 +1,5 @@
 -- Which answer is given, by the tests that the code makes. Assumes nothing.
+use Rattle.std.specs.Prelude.{Err, Ok, Option, Result, Some, None}
 use Prim.Native.Nat.{ℕ, suc, ◌-◌, ◌*◌, ◌/◌, ◌≤◌, ◌<◌}
 use mathlib.Core.Path.{◌≡◌, refl, sym, ap, ◌∙◌}
 use mathlib.Core.Bool.{Bool, true, false, not, ◌||◌}
@@ -24,7 +25,7 @@ use Rattle.records.specs.declared.Fill.{Fill}
 use Rattle.records.specs.declared.Limits.{Limits}
 use Rattle.records.specs.declared.ManifestRow.{ManifestRow}
 use Rattle.records.specs.declared.Refusal.{Refusal}
-use Rattle.records.specs.declared.Refusal.TheVariants.{Unlawful, OverLimit, NoRoom, EmptyRange, OwnEmpty, OwnOutside, MaskBit}
+use Rattle.records.specs.declared.Refusal.TheVariants.{Unlawful, OverLimit, NoRoom, EmptyRange, MaskBit}
 use Rattle.records.proofs.Sums.{fill_same, empty_plus}
 use Rattle.records.proofs.Cursor.{row_front, layout_front}
 use Rattle.records.proofs.Laid.{Table, segments, views, runs, borrows, ids, pool, at, at_empty}
@@ -32,16 +33,10 @@ use Rattle.records.proofs.Columns.{keys_fill, tree_fill_lem, segments_fill, borr
 use Rattle.emit.proofs.Columns.{ids_laid_long}
 use Rattle.measure.specs.Within.{tree_views, all_views, ids_used}
 use Rattle.measure.specs.Walk.{add_of}
-use Rattle.measure.specs.declared.Measured.{Measured}
-use Rattle.measure.specs.declared.Measured.TheVariants.{Broken, Fills}
 use Rattle.measure.proofs.Fits.{fits_part}
 use Rattle.lawful.specs.Judge.{judged_of}
-use Rattle.lawful.specs.declared.Judged.{Judged}
-use Rattle.lawful.specs.declared.Judged.TheVariants.{Lawful, Breaks}
 use Rattle.copy.specs.Copy as copy
 use Rattle.copy.specs.Copy.{room_of, no_room, laid_over, laid_at, given_of, copy_of}
-use Rattle.copy.specs.declared.Copied as copied
-use Rattle.copy.specs.declared.Copied.TheVariants as copied_as
 use Rattle.copy.proofs.Manifest.{segments_count}
 use Rattle.segments.specs.Prefixes.{prefixes_in}
 use Rattle.segments.proofs.Answers.{prefixes_in_lem}
@@ -51,8 +46,6 @@ use Rattle.project_ranges.specs.Config.{Config, is_noop, names_count, refuses10,
 use Rattle.project_ranges.specs.Own.{own_fault}
 use Rattle.project_ranges.specs.Action.{action_of}
 use Rattle.project_ranges.specs.Args.{asked_in, config_in, config_over, global_empty}
-use Rattle.project_ranges.specs.declared.Fault.{Fault}
-use Rattle.project_ranges.specs.declared.Fault.TheVariants.{None, Empty, Outside}
 use Rattle.project_ranges.specs.declared.ProjectionConfig.{ProjectionConfig}
 use Rattle.project_lay.specs.After.{tree_after, segments_after}
 use Rattle.project_lay.specs.Steps.{segments_views}
@@ -60,47 +53,46 @@ use Rattle.prune.specs.Prune.{pruned}
 use Rattle.project.specs.Project.{narrowed, with_used, projected_of}
 use Rattle.project.specs.Answer.{Outcome, refused, unless_fault, projected_to, projected_given, projected_in}
 use Rattle.project.specs.Steps.{body_fill, filled_to, listed_to}
-use Rattle.project.specs.declared.ProjectedAs.TheVariants.{Done, Refused}
 
 -- ---- what a sum tells
 
-sum_broken : (most c more : Fill) → add_of most c more ≡ Broken → fits (plus c more) most ≡ false
+sum_broken : (most c more : Fill) → add_of most c more ≡ None → fits (plus c more) most ≡ false
 unfolding add_of
 sum_broken most c more h = go (fits (plus c more) most) h
   where
-    go : (b : Bool) → pick b (Fills (plus c more)) Broken ≡ Broken → b ≡ false
+    go : (b : Bool) → pick b (Some (plus c more)) None ≡ None → b ≡ false
     go true e = let z : ◌≡◌ {A = ℕ} 0 1 = cc in absurd (omega arith)
     go false e = refl
 
 -- ---- the copy
 
-module _ (lim : Limits) (names : ℕ) (l : Lent) (m : ManifestRow) (o : Lent) (h : judged_of lim l m ≡ Lawful) (x : copied.Copied) (o' : Lent)
+module _ (lim : Limits) (names : ℕ) (l : Lent) (m : ManifestRow) (o : Lent) (h : judged_of lim l m ≡ Ok tt) (x : Result ManifestRow Refusal) (o' : Lent)
     (e : ◌≡◌ {A = copy.Outcome} (record { answer = x; out = o' }) (copy_of lim l m o))
   where
     given : ◌≡◌ {A = copy.Outcome} (record { answer = x; out = o' }) (given_of lim (manifest_in l m) o)
     unfolding copy_of
     given = rw (lawful_keeps lim l m h).first at e
 
-    pub copy_done : (row : ManifestRow) → x ≡ copied_as.Done row → ◌≡◌ {A = Outcome} (record { answer = Done names row; out = o' }) (filled_to lim names (manifest_in l m) o)
+    pub copy_done : (row : ManifestRow) → x ≡ Ok row → ◌≡◌ {A = Outcome} (record { answer = Ok (names, row); out = o' }) (filled_to lim names (manifest_in l m) o)
     unfolding given_of filled_to
     copy_done row k = go (no_room lim (room_of o) (manifest_fill (manifest_in l m))) given
       where
         go : (b : Bool) → ◌≡◌ {A = copy.Outcome} (record { answer = x; out = o' })
-            (pick b (record { answer = copied_as.Refused NoRoom; out = o }) (record { answer = copied_as.Done (manifest_row (manifest_in l m)); out = laid_over o (layout (manifest_in l m)) }))
-            → ◌≡◌ {A = Outcome} (record { answer = Done names row; out = o' }) (pick b (refused NoRoom o) (record { answer = Done names (manifest_row (manifest_in l m)); out = laid_over o (layout (manifest_in l m)) }))
+            (pick b (record { answer = Err NoRoom; out = o }) (record { answer = Ok (manifest_row (manifest_in l m)); out = laid_over o (layout (manifest_in l m)) }))
+            → ◌≡◌ {A = Outcome} (record { answer = Ok (names, row); out = o' }) (pick b (refused NoRoom o) (record { answer = Ok (names, (manifest_row (manifest_in l m))); out = laid_over o (layout (manifest_in l m)) }))
         go true g = let a = sym k ∙ ap (λ (y : copy.Outcome). y.answer) g in let z : ◌≡◌ {A = ℕ} 0 1 = cc in absurd (omega arith)
         go false g =
             let a = sym k ∙ ap (λ (y : copy.Outcome). y.answer) g in
             let r : row ≡ manifest_row (manifest_in l m) = cc in
             rw (r, ap (λ (y : copy.Outcome). y.out) g)
 
-    pub copy_refused : (r : Refusal) → x ≡ copied_as.Refused r → ◌≡◌ {A = Outcome} (record { answer = Refused r; out = o' }) (filled_to lim names (manifest_in l m) o)
+    pub copy_refused : (r : Refusal) → x ≡ Err r → ◌≡◌ {A = Outcome} (record { answer = Err r; out = o' }) (filled_to lim names (manifest_in l m) o)
     unfolding given_of filled_to
     copy_refused r k = go (no_room lim (room_of o) (manifest_fill (manifest_in l m))) given
       where
         go : (b : Bool) → ◌≡◌ {A = copy.Outcome} (record { answer = x; out = o' })
-            (pick b (record { answer = copied_as.Refused NoRoom; out = o }) (record { answer = copied_as.Done (manifest_row (manifest_in l m)); out = laid_over o (layout (manifest_in l m)) }))
-            → ◌≡◌ {A = Outcome} (record { answer = Refused r; out = o' }) (pick b (refused NoRoom o) (record { answer = Done names (manifest_row (manifest_in l m)); out = laid_over o (layout (manifest_in l m)) }))
+            (pick b (record { answer = Err NoRoom; out = o }) (record { answer = Ok (manifest_row (manifest_in l m)); out = laid_over o (layout (manifest_in l m)) }))
+            → ◌≡◌ {A = Outcome} (record { answer = Err r; out = o' }) (pick b (refused NoRoom o) (record { answer = Ok (names, (manifest_row (manifest_in l m))); out = laid_over o (layout (manifest_in l m)) }))
         go true g =
             let a = sym k ∙ ap (λ (y : copy.Outcome). y.answer) g in
             let q : r ≡ NoRoom = cc in
@@ -140,17 +132,17 @@ module _ (lim : Limits) (names : ℕ) (l : Lent) (m : ManifestRow) (x : Config) 
   unfolding filled_to no_room
   over_limit h = rw h
 
-  module _ (us : List SstId) (i : us ≡ ids_used (all_views left)) (d : Fill) (p : d ≡ body_fill left) (u : Measured)
+  module _ (us : List SstId) (i : us ≡ ids_used (all_views left)) (d : Fill) (p : d ≡ body_fill left) (u : Option Fill)
       (q : u ≡ add_of lim.fill d (sum borrow_fill (pruned us (borrows_in l.borrows l.ids l.pool m.external_dbs))))
     where
       measured : u ≡ add_of lim.fill (body_fill left) (sum borrow_fill result.borrows)
       unfolding narrowed with_used manifest_in
       measured = q ∙ rw (p, i)
 
-      pub listed_over : u ≡ Broken → refused NoRoom o ≡ filled_to lim names result o
+      pub listed_over : u ≡ None → refused NoRoom o ≡ filled_to lim names result o
       listed_over h = over_limit (rw (body_filled left) (sum_broken lim.fill (body_fill left) (sum borrow_fill result.borrows) (sym measured ∙ h)))
 
-      module _ (f : Fill) (t : u ≡ Fills f) where
+      module _ (f : Fill) (t : u ≡ Some f) where
         pub listed_fills : f ≡ manifest_fill result
         listed_fills = (added_is lim.fill (body_fill left) (sum borrow_fill result.borrows) f (sym measured ∙ t)).0 ∙ sym (body_filled left)
 
@@ -170,7 +162,7 @@ module _ (lim : Limits) (names : ℕ) (l : Lent) (m : ManifestRow) (x : Config) 
             listed_room = rw (empty_plus (manifest_fill result)) (room_tested ∙ not-false b g)
 
             pub listed_done : (r : ManifestRow) (o' : Lent) → r ≡ manifest_row_at empty result → o' ≡ laid_at empty o (layout_at empty result)
-                → ◌≡◌ {A = Outcome} (record { answer = Done names r; out = o' }) (filled_to lim names result o)
+                → ◌≡◌ {A = Outcome} (record { answer = Ok (names, r); out = o' }) (filled_to lim names result o)
             unfolding filled_to no_room
             listed_done r o' e y = rw (within_limit, room_tested ∙ not-false b g) (rw (e ∙ row_front result, y ∙ laid_front (layout_at empty result) ∙ ap (laid_over o) (layout_front result)))
 
@@ -201,21 +193,21 @@ module _ (lim : Limits) (names : ℕ) (l : Lent) (m : ManifestRow) (x : Config) 
       let s = ap (λ (f : Fill). f.views) (body_filled left) in
       omega arith
 
-  module _ (u : Measured)
+  module _ (u : Option Fill)
       (q : u ≡ add_of lim.fill empty (plus (tree_fill (tree_after (action_of x 0 []) (tree_in l.runs l.views l.pool m.tree))) (plus (sum segment_fill (segments_after x 1 (segments_in l.segments l.runs l.views l.pool m.segments))) (sum key_fill (name_keys (name_in l.pool m.segment_extractor_name))))))
     where
       narrow : u ≡ add_of lim.fill empty (body_fill left)
       unfolding narrowed manifest_in
       narrow = q
 
-      pub narrow_over : (n : ℕ) → u ≡ Broken → refused NoRoom o ≡ listed_to lim names n result o
+      pub narrow_over : (n : ℕ) → u ≡ None → refused NoRoom o ≡ listed_to lim names n result o
       unfolding listed_to
       narrow_over n h =
           let f : fits (body_fill left) lim.fill ≡ false = rw (empty_plus (body_fill left)) at (sum_broken lim.fill empty (body_fill left) (sym narrow ∙ h)) in
           let e : refused NoRoom o ≡ filled_to lim names result o = over_limit (rw (body_filled left) (fits_part (body_fill left) (sum borrow_fill result.borrows) lim.fill f)) in
           rw (← e) (sym (pick_same (ltb n (manifest_fill result).views) (refused NoRoom o)))
 
-      module _ (d : Fill) (t : u ≡ Fills d) where
+      module _ (d : Fill) (t : u ≡ Some d) where
         pub narrow_fills : d ≡ body_fill left
         narrow_fills = (added_is lim.fill empty (body_fill left) d (sym narrow ∙ t)).0 ∙ empty_plus (body_fill left)
 
@@ -258,7 +250,7 @@ module _ (lim : Limits) (names places : ℕ) (x : Config) (m : Manifest) (o : Le
   unfolding projected_to projected_of filled_to
   given_copy t g = rw (sym h ∙ t, ← e) (g ∙ go (no_room lim (room_of o) (manifest_fill m)))
     where
-      go : (r : Bool) → pick r (refused NoRoom o) (record { answer = Done names (manifest_row m); out = laid_over o (layout m) }) ≡ pick (r || false) (refused NoRoom o) (record { answer = Done names (manifest_row m); out = laid_over o (layout m) })
+      go : (r : Bool) → pick r (refused NoRoom o) (record { answer = Ok (names, (manifest_row m)); out = laid_over o (layout m) }) ≡ pick (r || false) (refused NoRoom o) (record { answer = Ok (names, (manifest_row m)); out = laid_over o (layout m) })
       go true = refl
       go false = refl
 
@@ -267,7 +259,7 @@ module _ (lim : Limits) (names places : ℕ) (x : Config) (m : Manifest) (o : Le
   given_narrowed t g = rw (sym h ∙ t, ← e) (g ∙ go (with_used (narrowed x m)) (no_room lim (room_of o) (manifest_fill (with_used (narrowed x m)))) (ltb places (manifest_fill (with_used (narrowed x m))).views))
     where
       go : (z : Manifest) (r s : Bool)
-          → pick s (refused NoRoom o) (pick r (refused NoRoom o) (record { answer = Done names (manifest_row z); out = laid_over o (layout z) })) ≡ pick (r || s) (refused NoRoom o) (record { answer = Done names (manifest_row z); out = laid_over o (layout z) })
+          → pick s (refused NoRoom o) (pick r (refused NoRoom o) (record { answer = Ok (names, (manifest_row z)); out = laid_over o (layout z) })) ≡ pick (r || s) (refused NoRoom o) (record { answer = Ok (names, (manifest_row z)); out = laid_over o (layout z) })
       go z true true = refl
       go z true false = refl
       go z false true = refl
@@ -293,16 +285,13 @@ module _ (lim : Limits) (l : Lent) (m : ManifestRow) (c : ProjectionConfig) (own
       unfolding projected_given config_in
       judged_mask k s r = rw (sym e ∙ t, counted, sym f ∙ s, r)
 
-      module _ (s : g ≡ false) (a : Fault) (r : a ≡ own_fault asked (prefixes_in l.segments l.pool m.segments)) where
+      module _ (s : g ≡ false) (a : Option Refusal) (r : a ≡ own_fault asked (prefixes_in l.segments l.pool m.segments)) where
         judged_on : unless_fault a o (projected_to lim asked places (projected_of asked (manifest_in l m)) o) ≡ projected_given lim asked places (manifest_in l m) o
         unfolding projected_given config_in
-        judged_on = rw (sym e ∙ t, counted, sym f ∙ s, prefixes_in_lem l m) (ap (λ (z : Fault). unless_fault z o (projected_to lim asked places (projected_of asked (manifest_in l m)) o)) r)
+        judged_on = rw (sym e ∙ t, counted, sym f ∙ s, prefixes_in_lem l m) (ap (λ (z : Option Refusal). unless_fault z o (projected_to lim asked places (projected_of asked (manifest_in l m)) o)) r)
 
-        pub judged_own_empty : (k : ℕ) → a ≡ Empty k → refused (OwnEmpty k) o ≡ projected_given lim asked places (manifest_in l m) o
-        judged_own_empty k q = rw q at judged_on
-
-        pub judged_outside : (k : ℕ) → a ≡ Outside k → refused (OwnOutside k) o ≡ projected_given lim asked places (manifest_in l m) o
-        judged_outside k q = rw q at judged_on
+        pub judged_own : (v : Refusal) → a ≡ Some v → refused v o ≡ projected_given lim asked places (manifest_in l m) o
+        judged_own v q = rw q at judged_on
 
         pub judged_given : (y : Outcome) → a ≡ None → y ≡ projected_to lim asked places (projected_of asked (manifest_in l m)) o → y ≡ projected_given lim asked places (manifest_in l m) o
         judged_given y q k = k ∙ (rw q at judged_on)
@@ -314,14 +303,14 @@ module _ (lim : Limits) (l : Lent) (m : ManifestRow) (c : ProjectionConfig) (own
   unfolding projected_in
   projected_over t = rw (sym e ∙ t)
 
-  module _ (t : b ≡ false) (j : Judged) (h : j ≡ judged_of lim l m) where
-    pub projected_lawful : j ≡ Lawful → judged_of lim l m ≡ Lawful
+  module _ (t : b ≡ false) (j : Result Unit ℕ) (h : j ≡ judged_of lim l m) where
+    pub projected_lawful : j ≡ Ok tt → judged_of lim l m ≡ Ok tt
     projected_lawful k = sym h ∙ k
 
-    pub projected_broken : (rule : ℕ) → j ≡ Breaks rule → refused (Unlawful rule) o ≡ projected_in lim l m c own used o
+    pub projected_broken : (rule : ℕ) → j ≡ Err rule → refused (Unlawful rule) o ≡ projected_in lim l m c own used o
     unfolding projected_in
     projected_broken rule k = rw (sym e ∙ t, sym h ∙ k)
 
-    pub projected_given_lem : (y : Outcome) → j ≡ Lawful → y ≡ projected_given lim (config_in l.pool c own) (length used / 2) (manifest_in l m) o → y ≡ projected_in lim l m c own used o
+    pub projected_given_lem : (y : Outcome) → j ≡ Ok tt → y ≡ projected_given lim (config_in l.pool c own) (length used / 2) (manifest_in l m) o → y ≡ projected_in lim l m c own used o
     unfolding projected_in
     projected_given_lem y k g = rw (sym e ∙ t, sym h ∙ k) g

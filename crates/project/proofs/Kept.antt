@@ -1,4 +1,5 @@
 -- The rows of a lawful manifest keep their part of L1. Assumes nothing.
+use Rattle.std.specs.Prelude.{Ok}
 use Prim.Native.Nat.{ℕ, zero, suc, ◌+◌, ◌/◌}
 use mathlib.Core.Path.{◌≡◌, refl, sym, ◌∙◌}
 use mathlib.Core.Bool.{Bool, true, ◌&&◌}
@@ -18,7 +19,6 @@ use Rattle.measure.specs.Placed.{key_in, tree_placed, segments_placed, name_plac
 use Rattle.measure.specs.Measure.{l1_of}
 use Rattle.measure.proofs.Lists.{all_up_to}
 use Rattle.lawful.specs.Judge.{judged_of}
-use Rattle.lawful.specs.declared.Judged.TheVariants.{Lawful}
 use Rattle.lawful.proofs.Rules.{all_trees}
 use Rattle.segments.proofs.Places.{and_both}
 use Rattle.segments.proofs.Demand3.{lawful_keeps}
@@ -30,7 +30,7 @@ below_map : (p q : ℕ → Bool) → ((k : ℕ) → p k ≡ true → q k ≡ tru
 below_map p q f zero h = refl
 below_map p q f (suc n) h = let w = and_both (all_below p n) (p n) h in rw (below_map p q f n w.0, f n w.1)
 
-module _ (lim : Limits) (l : Lent) (m : ManifestRow) (e : judged_of lim l m ≡ Lawful) where
+module _ (lim : Limits) (l : Lent) (m : ManifestRow) (e : judged_of lim l m ≡ Ok tt) where
   -- L1, in its two parts
   pub both : (placed l m ≡ true) × (within lim (manifest_in l m) ≡ true)
   unfolding l1_of

@@ -1,4 +1,5 @@
 -- The bounds that a projection writes are no longer than the limits, where its arguments and the source's are not. Assumes nothing.
+use Rattle.std.specs.Prelude.{None, Option, Some}
 use Prim.Native.Nat.{ℕ, zero, suc, ◌+◌, ◌*◌, ◌/◌, ◌≤◌, ◌<◌}
 use mathlib.Core.Path.{◌≡◌, refl, sym, ap, ◌∙◌}
 use mathlib.Core.Bool.{Bool, true, false, not, ◌||◌}
@@ -34,8 +35,6 @@ use Rattle.project_ranges.specs.Config.{free, own_range, passes}
 use Rattle.project_ranges.specs.Own.{prefix_range, or_else, resolved}
 use Rattle.project_ranges.specs.Action.{Action, drop, project, combined, action_of}
 use Rattle.project_ranges.specs.Args.{asked_in, own_row, own_in, config_in, global_over, own_row_over, some_over, counted, own_over, config_over}
-use Rattle.project_ranges.specs.declared.Global.{Global}
-use Rattle.project_ranges.specs.declared.Global.TheVariants as global
 use Rattle.project_ranges.specs.declared.ProjectionConfig.{ProjectionConfig}
 use Rattle.project.proofs.Results.{Good, dropped, shown as projected, passed}
 
@@ -238,11 +237,11 @@ module _ (most : ℕ) where
     own_short_lem : some_over most n own (counted own segments) ≡ false → ShortR (own_range (up_to (λ i. edges_of pool (own_row own i)) (length own / 6)) place)
     own_short_lem h = at_short (λ i. edges_of pool (own_row own i)) (length own / 6) place (λ k. range_short pool n (own_row own place) (some_none n own (counted own segments) place (is_counted k) h))
 
-    combined_good : (p : List ℕ) → length p ≤ most → (b : Bool) (g : Global) → global_over most n g ≡ false → own_over most n segments b own ≡ false → Good ShortR (combined (own_in pool b own) (asked_in pool g) place p)
-    combined_good p s false global.Unset h k = passed
-    combined_good p s false (global.Set r) h k = projected (range_short pool n r h)
-    combined_good p s true global.Unset h k = projected (resolved_short p (own_range (up_to (λ i. edges_of pool (own_row own i)) (length own / 6)) place) s (own_short_lem k))
-    combined_good p s true (global.Set r) h k = go (holds_none both)
+    combined_good : (p : List ℕ) → length p ≤ most → (b : Bool) (g : Option Range) → global_over most n g ≡ false → own_over most n segments b own ≡ false → Good ShortR (combined (own_in pool b own) (asked_in pool g) place p)
+    combined_good p s false None h k = passed
+    combined_good p s false (Some r) h k = projected (range_short pool n r h)
+    combined_good p s true None h k = projected (resolved_short p (own_range (up_to (λ i. edges_of pool (own_row own i)) (length own / 6)) place) s (own_short_lem k))
+    combined_good p s true (Some r) h k = go (holds_none both)
       where
         both : Edges
         both = meet_of (resolved p (own_range (up_to (λ i. edges_of pool (own_row own i)) (length own / 6)) place)) (edges_of pool r)

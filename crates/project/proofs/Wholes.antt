@@ -1,4 +1,5 @@
 -- The result laid out: its trees, its name and what is left of its borrows. Assumes nothing.
+use Rattle.std.specs.Prelude.{Option}
 use Prim.Native.Nat.{ℕ, ◌+◌, ◌*◌, ◌≤◌}
 use mathlib.Core.Path.{◌≡◌, ap, ◌∙◌}
 use mathlib.Core.List.{List, ◌++◌}
@@ -11,12 +12,12 @@ use Rattle.records.specs.Fill.{plus, sum, key_fill, name_keys, tree_fill, segmen
 use Rattle.records.specs.Layout.{run, tree_row, name_row, borrows_laid, borrow_ids, borrow_path, manifest_row_at}
 use Rattle.records.specs.Decode.{Lent, manifest_in}
 use Rattle.records.specs.declared.Fill.{Fill}
-use Rattle.records.specs.declared.Name.{Name}
 use Rattle.records.specs.declared.ManifestRow.{ManifestRow}
 use Rattle.records.proofs.Columns.{keys_fill, tree_fill_lem, segments_fill, borrows_fill}
 use Rattle.emit.specs.declared.LaidTree.{LaidTree}
 use Rattle.prune.specs.Prune.{pruned}
 use Rattle.project.specs.Project.{with_trees}
+use Rattle.records.specs.declared.Place.{Place}
 
 -- ---- the name and the borrows, laid from c on
 
@@ -25,7 +26,7 @@ RestRoom c l m n x bs =
     ((c.borrows + (plus (sum key_fill (name_keys x)) (sum borrow_fill bs)).borrows) * 9 ≤ l)
     × (((c.ids + (plus (sum key_fill (name_keys x)) (sum borrow_fill bs)).ids) * 2 ≤ m) × (c.bytes + (plus (sum key_fill (name_keys x)) (sum borrow_fill bs)).bytes ≤ n))
 
-abbrev pub RestLaid : Fill → Name → List ℕ → List ℕ → List ℕ → List ℕ → List ℕ → List ℕ → Extractor → List Borrow → Type 0
+abbrev pub RestLaid : Fill → Option Place → List ℕ → List ℕ → List ℕ → List ℕ → List ℕ → List ℕ → Extractor → List Borrow → Type 0
 RestLaid c q b b' i i' p p' x bs =
     (q ≡ name_row c.bytes x)
     × ((b' ≡ write b (c.borrows * 9) (borrows_laid (plus c (sum key_fill (name_keys x))) bs))
@@ -36,7 +37,7 @@ module _ (us vs : List SstId) (e : us ≡ vs) (bs : List Borrow) (c : Fill) (x :
   pub rest_room_used : (l m n : ℕ) → RestRoom c l m n x (pruned vs bs) → RestRoom c l m n x (pruned us bs)
   rest_room_used l m n h = rw e h
 
-  pub rest_laid_used : (q : Name) (b b' i i' p p' : List ℕ) → RestLaid c q b b' i i' p p' x (pruned us bs) → RestLaid c q b b' i i' p p' x (pruned vs bs)
+  pub rest_laid_used : (q : Option Place) (b b' i i' p p' : List ℕ) → RestLaid c q b b' i i' p p' x (pruned us bs) → RestLaid c q b b' i i' p p' x (pruned vs bs)
   rest_laid_used q b b' i i' p p' h = rw (← e) h
 
 -- ---- the whole
@@ -60,7 +61,7 @@ borrows_filled m =
     omega arith
 
 -- a row like m's for these trees and borrows, laid from c on
-pub row_laid : (x : Lent) (m : ManifestRow) (t : Tree) (ss : List Segment) (bs : List Borrow) (c : Fill) (l : LaidTree) (name : Name) (i j : ℕ) (r : ManifestRow)
+pub row_laid : (x : Lent) (m : ManifestRow) (t : Tree) (ss : List Segment) (bs : List Borrow) (c : Fill) (l : LaidTree) (name : Option Place) (i j : ℕ) (r : ManifestRow)
     → l ≡ record { tree = tree_row c t; past = plus c (plus (tree_fill t) (sum segment_fill ss)) } → name ≡ name_row l.past.bytes (manifest_in x m).extractor → i ≡ length ss → j ≡ length bs
     → r ≡ record {
       initialized = m.initialized;

@@ -1,5 +1,5 @@
 -- What projection answers, and what every lent output then holds.
-use Rattle.std.specs.Prelude.{ℕ, ◌/◌, Bool, not, ◌&&◌, ◌||◌, List, [], ◌∷◌, ltb, length}
+use Rattle.std.specs.Prelude.{ℕ, ◌/◌, Bool, not, ◌&&◌, ◌||◌, List, [], ◌∷◌, ltb, length, Err, Ok, Result, None, Option, Some}
 use Rattle.keys.specs.Pick.{pick}
 use Rattle.records.specs.Model.{Manifest}
 use Rattle.records.specs.Fill.{manifest_fill}
@@ -9,33 +9,28 @@ use Rattle.records.specs.Refusals.{refusal}
 use Rattle.records.specs.declared.Limits.{Limits}
 use Rattle.records.specs.declared.ManifestRow.{ManifestRow}
 use Rattle.records.specs.declared.Refusal.{Refusal}
-use Rattle.records.specs.declared.Refusal.TheVariants.{Unlawful, OverLimit, NoRoom, EmptyRange, OwnEmpty, OwnOutside, MaskBit}
+use Rattle.records.specs.declared.Refusal.TheVariants.{Unlawful, OverLimit, NoRoom, EmptyRange, MaskBit}
 use Rattle.copy.specs.Copy.{room_of, no_room, laid_over}
 use Rattle.segments.specs.Prefixes.{prefixes}
 use Rattle.segments.specs.Refuses.{refuses1, first_broken}
 use Rattle.project_ranges.specs.Config.{Config, is_noop, names_count, refuses10, place10}
 use Rattle.project_ranges.specs.Own.{own_fault}
 use Rattle.project_ranges.specs.Args.{config_in, config_over, global_empty}
-use Rattle.project_ranges.specs.declared.Fault.{Fault}
-use Rattle.project_ranges.specs.declared.Fault.TheVariants.{None, Empty, Outside}
 use Rattle.project_ranges.specs.declared.ProjectionConfig.{ProjectionConfig}
 use Rattle.project.specs.Project.{projected_of}
-use Rattle.project.specs.declared.ProjectedAs.{ProjectedAs}
-use Rattle.project.specs.declared.ProjectedAs.TheVariants.{Done, Refused}
 
 -- an answer, and what the lent output tables hold
 pub record Outcome : Type 0 where
-  pub answer : ProjectedAs
+  pub answer : Result (ℕ × ManifestRow) Refusal
   pub out : Lent
 
 abbrev pub refused : Refusal → Lent → Outcome
-refused r o = record { answer = Refused r; out = o }
+refused r o = record { answer = Err r; out = o }
 
 -- "8 / 9 | own range empty / not contained"
-abbrev pub unless_fault : Fault → Lent → Outcome → Outcome
+abbrev pub unless_fault : Option Refusal → Lent → Outcome → Outcome
 unless_fault None o given = given
-unless_fault (Empty place) o given = refused (OwnEmpty place) o
-unless_fault (Outside place) o given = refused (OwnOutside place) o
+unless_fault (Some r) o given = refused r o
 
 -- 4 too where the working list has fewer places than the result has views; a copy needs none
 abbrev pub used_short : Config → ℕ → Manifest → Bool
@@ -45,7 +40,7 @@ used_short c places result = not (is_noop c) && ltb places (manifest_fill result
 unfoldable pub projected_to : Limits → Config → ℕ → Manifest → Lent → Outcome
 projected_to lim c places result o =
     pick (no_room lim (room_of o) (manifest_fill result) || used_short c places result) (refused NoRoom o)
-    (record { answer = Done (names_count c.filter) (manifest_row result); out = laid_over o (layout result) })
+    (record { answer = Ok ((names_count c.filter), (manifest_row result)); out = laid_over o (layout result) })
 
 -- of a lawful manifest: 5, 10, then 8 and 9, then 4
 unfoldable pub projected_given : Limits → Config → ℕ → Manifest → Lent → Outcome
@@ -62,6 +57,6 @@ projected_in lim l m c own used o =
     (projected_given lim (config_in l.pool c own) (length used / 2) (manifest_in l m) o))
 
 -- the number and the values of each answer
-abbrev pub projected_says : ProjectedAs → List ℕ
-projected_says (Done names m) = 0 ∷ names ∷ []
-projected_says (Refused r) = refusal r
+abbrev pub projected_says : Result (ℕ × ManifestRow) Refusal → List ℕ
+projected_says (Ok (names, m)) = 0 ∷ names ∷ []
+projected_says (Err r) = refusal r

@@ -9,31 +9,23 @@ ghost use Rattle.ids.specs.Names.{ids_of};
 ghost use Rattle.records.specs.Decode.{manifest_in};
 ghost use Rattle.measure.specs.Within.{all_views, ids_used};
 ghost use Rattle.lawful.specs.Judge.{judged_of};
-ghost use Rattle.lawful.specs.declared.Judged.TheVariants.{Lawful};
 ghost use Rattle.project_ranges.specs.Args.{config_in};
 ghost use Rattle.project.specs.Project.{narrowed, with_used, projected_of};
 ghost use Rattle.project.specs.Answer.{projected_to, projected_given, projected_in};
 ghost use Rattle.project.specs.Steps.{body_fill, filled_to, listed_to};
 
-use copy::{Copied, canonical_copy};
-use lawful::{Judged, lawful};
-use measure::{Measured, fits_in};
+use copy::canonical_copy;
+use lawful::lawful;
+use measure::fits_in;
 use project_lay::{list_used, measure_narrowed};
 use project_ranges::{
-    Fault, ProjectionConfig, config_over, global_empty, highest_bit, is_noop, mask_over,
-    names_count, own_fault,
+    ProjectionConfig, config_over, global_empty, highest_bit, is_noop, mask_over, names_count,
+    own_fault,
 };
 use projected_laid::put_projected;
 use prune::measure_pruned;
 use records::{Fill, Limits, ManifestRow, Refusal};
 use tables::held;
-
-// How many segments the mask names, and the manifest; or why there is none.
-#[derive(Clone, Copy)]
-pub enum ProjectedAs {
-    Done(usize, ManifestRow),
-    Refused(Refusal),
-}
 
 // ---- the answer
 
@@ -54,11 +46,11 @@ fn give_copy(
     out_borrows: &mut [u64],
     out_ids: &mut [u64],
     out_pool: &mut [u8],
-) -> ProjectedAs
-    requires { judged_of lim (record { segments = segments.now; views = views.now; runs = runs.now; borrows = borrows.now; ids = ids.now; pool = pool.now }) m ≡ Lawful }
+) -> Result<(usize, ManifestRow), Refusal>
+    requires { judged_of lim (record { segments = segments.now; views = views.now; runs = runs.now; borrows = borrows.now; ids = ids.now; pool = pool.now }) m ≡ Ok tt }
     ensures { record { answer = result; out = (record { segments = out_segments.new; views = out_views.new; runs = out_runs.new; borrows = out_borrows.new; ids = out_ids.new; pool = out_pool.new }) } ≡ filled_to lim names (manifest_in (record { segments = segments.now; views = views.now; runs = runs.now; borrows = borrows.now; ids = ids.now; pool = pool.now }) m) (record { segments = out_segments.old; views = out_views.old; runs = out_runs.old; borrows = out_borrows.old; ids = out_ids.old; pool = out_pool.old }) }
 {
-    match canonical_copy(
+    let row = canonical_copy(
         lim,
         segments,
         views,
@@ -73,10 +65,8 @@ fn give_copy(
         out_borrows,
         out_ids,
         out_pool,
-    ) {
-        Copied::Done(row) => ProjectedAs::Done(names, row),
-        Copied::Refused(r) => ProjectedAs::Refused(r),
-    }
+    )?;
+    Ok((names, row))
 }
 
 // What is left, whose trees and name fill `d`, and the SST ids of whose views are lent.
@@ -100,17 +90,14 @@ fn give_listed(
     out_ids: &mut [u64],
     out_pool: &mut [u8],
     d: Fill,
-) -> ProjectedAs
+) -> Result<(usize, ManifestRow), Refusal>
     requires used_value { ids_of used.now ≡ ids_used (all_views (narrowed (config_in pool.now config own.now) (manifest_in (record { segments = segments.now; views = views.now; runs = runs.now; borrows = borrows.now; ids = ids.now; pool = pool.now }) m))) }
     requires d_value { d ≡ body_fill (narrowed (config_in pool.now config own.now) (manifest_in (record { segments = segments.now; views = views.now; runs = runs.now; borrows = borrows.now; ids = ids.now; pool = pool.now }) m)) }
     ensures { record { answer = result; out = (record { segments = out_segments.new; views = out_views.new; runs = out_runs.new; borrows = out_borrows.new; ids = out_ids.new; pool = out_pool.new }) } ≡ filled_to lim names (with_used (narrowed (config_in pool.now config own.now) (manifest_in (record { segments = segments.now; views = views.now; runs = runs.now; borrows = borrows.now; ids = ids.now; pool = pool.now }) m))) (record { segments = out_segments.old; views = out_views.old; runs = out_runs.old; borrows = out_borrows.old; ids = out_ids.old; pool = out_pool.old }) }
 {
-    let most = lim.fill;
-    let w = m.external_dbs;
-    let u = measure_pruned(most, borrows, w, ids, pool, used, d);
-    let Measured::Fills(f) = u else {
-        return ProjectedAs::Refused(Refusal::NoRoom);
-    };
+    let f = measure_pruned(lim.fill, borrows, m.external_dbs, ids, pool, used, d).ok_or(
+        Refusal::NoRoom,
+    )?;
     let room = Fill {
         segments: out_segments.len() / 12,
         views: out_views.len() / 16,
@@ -120,7 +107,7 @@ fn give_listed(
         bytes: out_pool.len(),
     };
     if !fits_in(f, room) {
-        return ProjectedAs::Refused(Refusal::NoRoom);
+        return Err(Refusal::NoRoom);
     }
     let none = Fill {
         segments: 0,
@@ -150,7 +137,7 @@ fn give_listed(
         f,
         none,
     );
-    ProjectedAs::Done(names, row)
+    Ok((names, row))
 }
 
 // What is left, where something is asked for.
@@ -173,19 +160,27 @@ fn give_narrowed(
     out_borrows: &mut [u64],
     out_ids: &mut [u64],
     out_pool: &mut [u8],
-) -> ProjectedAs
-    requires { judged_of lim (record { segments = segments.now; views = views.now; runs = runs.now; borrows = borrows.now; ids = ids.now; pool = pool.now }) m ≡ Lawful }
+) -> Result<(usize, ManifestRow), Refusal>
+    requires { judged_of lim (record { segments = segments.now; views = views.now; runs = runs.now; borrows = borrows.now; ids = ids.now; pool = pool.now }) m ≡ Ok tt }
     ensures { record { answer = result; out = (record { segments = out_segments.new; views = out_views.new; runs = out_runs.new; borrows = out_borrows.new; ids = out_ids.new; pool = out_pool.new }) } ≡ listed_to lim names (length used.old / 2) (with_used (narrowed (config_in pool.now config own.now) (manifest_in (record { segments = segments.now; views = views.now; runs = runs.now; borrows = borrows.now; ids = ids.now; pool = pool.now }) m))) (record { segments = out_segments.old; views = out_views.old; runs = out_runs.old; borrows = out_borrows.old; ids = out_ids.old; pool = out_pool.old }) }
 {
     let t = m.tree;
     let w = m.segments;
-    let n = m.segment_extractor_name;
-    let u = measure_narrowed(lim, segments, t, w, n, runs, views, pool, config, own);
-    let Measured::Fills(d) = u else {
-        return ProjectedAs::Refused(Refusal::NoRoom);
-    };
+    let d = measure_narrowed(
+        lim,
+        segments,
+        t,
+        w,
+        m.segment_extractor_name,
+        runs,
+        views,
+        pool,
+        config,
+        own,
+    )
+    .ok_or(Refusal::NoRoom)?;
     if used.len() / 2 < d.views {
-        return ProjectedAs::Refused(Refusal::NoRoom);
+        return Err(Refusal::NoRoom);
     }
     list_used(segments, t, w, runs, views, pool, config, own, used);
     let end = d.views * 2;
@@ -231,12 +226,11 @@ fn give(
     out_borrows: &mut [u64],
     out_ids: &mut [u64],
     out_pool: &mut [u8],
-) -> ProjectedAs
-    requires { judged_of lim (record { segments = segments.now; views = views.now; runs = runs.now; borrows = borrows.now; ids = ids.now; pool = pool.now }) m ≡ Lawful }
+) -> Result<(usize, ManifestRow), Refusal>
+    requires { judged_of lim (record { segments = segments.now; views = views.now; runs = runs.now; borrows = borrows.now; ids = ids.now; pool = pool.now }) m ≡ Ok tt }
     ensures { record { answer = result; out = (record { segments = out_segments.new; views = out_views.new; runs = out_runs.new; borrows = out_borrows.new; ids = out_ids.new; pool = out_pool.new }) } ≡ projected_to lim (config_in pool.now config own.now) (length used.old / 2) (projected_of (config_in pool.now config own.now) (manifest_in (record { segments = segments.now; views = views.now; runs = runs.now; borrows = borrows.now; ids = ids.now; pool = pool.now }) m)) (record { segments = out_segments.old; views = out_views.old; runs = out_runs.old; borrows = out_borrows.old; ids = out_ids.old; pool = out_pool.old }) }
 {
-    let filter = config.segment_filter;
-    let names = names_count(filter);
+    let names = names_count(config.segment_filter);
     if is_noop(config, pool, own) {
         return give_copy(
             lim,
@@ -298,21 +292,21 @@ pub fn projected_judged(
     out_borrows: &mut [u64],
     out_ids: &mut [u64],
     out_pool: &mut [u8],
-) -> ProjectedAs
-    requires { judged_of lim (record { segments = segments.now; views = views.now; runs = runs.now; borrows = borrows.now; ids = ids.now; pool = pool.now }) m ≡ Lawful }
+) -> Result<(usize, ManifestRow), Refusal>
+    requires { judged_of lim (record { segments = segments.now; views = views.now; runs = runs.now; borrows = borrows.now; ids = ids.now; pool = pool.now }) m ≡ Ok tt }
     ensures { record { answer = result; out = (record { segments = out_segments.new; views = out_views.new; runs = out_runs.new; borrows = out_borrows.new; ids = out_ids.new; pool = out_pool.new }) } ≡ projected_given lim (config_in pool.now c own.now) (length used.old / 2) (manifest_in (record { segments = segments.now; views = views.now; runs = runs.now; borrows = borrows.now; ids = ids.now; pool = pool.now }) m) (record { segments = out_segments.old; views = out_views.old; runs = out_runs.old; borrows = out_borrows.old; ids = out_ids.old; pool = out_pool.old }) }
 {
     if global_empty(pool, c) {
-        return ProjectedAs::Refused(Refusal::EmptyRange);
+        return Err(Refusal::EmptyRange);
     }
     let w = m.segments;
     let filter = c.segment_filter;
     let n = held(w, segments.len() / 12);
     if mask_over(n, filter) {
-        return ProjectedAs::Refused(Refusal::MaskBit(highest_bit(filter)));
+        return Err(Refusal::MaskBit(highest_bit(filter)));
     }
     match own_fault(segments, pool, w, c, own) {
-        Fault::None => give(
+        None => give(
             lim,
             segments,
             views,
@@ -331,8 +325,7 @@ pub fn projected_judged(
             out_ids,
             out_pool,
         ),
-        Fault::Empty(place) => ProjectedAs::Refused(Refusal::OwnEmpty(place)),
-        Fault::Outside(place) => ProjectedAs::Refused(Refusal::OwnOutside(place)),
+        Some(refusal) => Err(refusal),
     }
 }
 
@@ -355,14 +348,15 @@ pub fn projected(
     out_borrows: &mut [u64],
     out_ids: &mut [u64],
     out_pool: &mut [u8],
-) -> ProjectedAs
+) -> Result<(usize, ManifestRow), Refusal>
     ensures { record { answer = result; out = (record { segments = out_segments.new; views = out_views.new; runs = out_runs.new; borrows = out_borrows.new; ids = out_ids.new; pool = out_pool.new }) } ≡ projected_in lim (record { segments = segments.now; views = views.now; runs = runs.now; borrows = borrows.now; ids = ids.now; pool = pool.now }) m c own.now used.old (record { segments = out_segments.old; views = out_views.old; runs = out_runs.old; borrows = out_borrows.old; ids = out_ids.old; pool = out_pool.old }) }
 {
     if config_over(lim.key, pool.len(), m.segments.count, c, own) {
-        return ProjectedAs::Refused(Refusal::OverLimit);
+        return Err(Refusal::OverLimit);
     }
+    // A `match`: what `map_err` makes of a variant's name is not proved.
     match lawful(lim, segments, views, runs, borrows, ids, pool, m) {
-        Judged::Lawful => projected_judged(
+        Ok(()) => projected_judged(
             lim,
             segments,
             views,
@@ -381,6 +375,6 @@ pub fn projected(
             out_ids,
             out_pool,
         ),
-        Judged::Breaks(rule) => ProjectedAs::Refused(Refusal::Unlawful(rule)),
+        Err(rule) => Err(Refusal::Unlawful(rule)),
     }
 }

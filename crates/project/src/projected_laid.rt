@@ -16,12 +16,12 @@ use emit::put_name;
 use project_lay::put_trees_after;
 use project_ranges::ProjectionConfig;
 use prune::prune_external_sst_ids;
-use records::{Fill, ManifestRow, Name};
+use records::{Fill, ManifestRow, Place};
 use tables::Window;
 
 // Appends the name, then what is left of the borrows. The ids in use are lent.
 fn put_rest_after(
-    n: Name,
+    n: Option<Place>,
     borrows: &[u64],
     w: Window,
     ids: &[u64],
@@ -31,7 +31,7 @@ fn put_rest_after(
     out_ids: &mut [u64],
     out_pool: &mut [u8],
     c: Fill,
-) -> Name
+) -> Option<Place>
     requires w_in_bounds { (c.borrows + (plus (sum key_fill (name_keys (name_in pool.now n))) (sum borrow_fill (pruned (ids_of used.now) (borrows_in borrows.now ids.now pool.now w)))).borrows) * 9 ≤ length out_borrows.old }
     requires w_in_bounds_2 { (c.ids + (plus (sum key_fill (name_keys (name_in pool.now n))) (sum borrow_fill (pruned (ids_of used.now) (borrows_in borrows.now ids.now pool.now w)))).ids) * 2 ≤ length out_ids.old }
     requires w_in_bounds_3 { c.bytes + (plus (sum key_fill (name_keys (name_in pool.now n))) (sum borrow_fill (pruned (ids_of used.now) (borrows_in borrows.now ids.now pool.now w)))).bytes ≤ length out_pool.old }
@@ -41,8 +41,6 @@ fn put_rest_after(
     ensures out_pool_after { out_pool.new ≡ write out_pool.old c.bytes (run (name_keys (name_in pool.now n)) ++ joined borrow_path (pruned (ids_of used.now) (borrows_in borrows.now ids.now pool.now w))) }
 {
     let laid = put_name(n, pool, out_pool, c);
-    let name = laid.name;
-    let at = laid.past;
     prune_external_sst_ids(
         borrows,
         w,
@@ -52,9 +50,9 @@ fn put_rest_after(
         out_borrows,
         out_ids,
         out_pool,
-        at,
+        laid.past,
     );
-    name
+    laid.name
 }
 
 // Lays the result, which fills `f`, out behind what fills `c`.
@@ -89,14 +87,10 @@ pub fn put_projected(
     ensures out_ids_after { out_ids.new ≡ write out_ids.old (c.ids * 2) (layout_at c (with_used (narrowed (config_in pool.now config own.now) (manifest_in (record { segments = segments.now; views = views.now; runs = runs.now; borrows = borrows.now; ids = ids.now; pool = pool.now }) m)))).ids }
     ensures out_pool_after { out_pool.new ≡ write out_pool.old c.bytes (layout_at c (with_used (narrowed (config_in pool.now config own.now) (manifest_in (record { segments = segments.now; views = views.now; runs = runs.now; borrows = borrows.now; ids = ids.now; pool = pool.now }) m)))).pool }
 {
-    let t = m.tree;
-    let w = m.segments;
-    let n = m.segment_extractor_name;
-    let b = m.external_dbs;
     let laid = put_trees_after(
-        t,
+        m.tree,
         segments,
-        w,
+        m.segments,
         runs,
         views,
         pool,
@@ -108,19 +102,17 @@ pub fn put_projected(
         out_pool,
         c,
     );
-    let tree = laid.tree;
-    let at = laid.past;
     let name = put_rest_after(
-        n,
+        m.segment_extractor_name,
         borrows,
-        b,
+        m.external_dbs,
         ids,
         pool,
         used,
         out_borrows,
         out_ids,
         out_pool,
-        at,
+        laid.past,
     );
     let rows = Window {
         first: c.segments,
@@ -130,5 +122,5 @@ pub fn put_projected(
         first: c.borrows,
         count: f.borrows,
     };
-    manifest_row_at(m, tree, rows, name, lent)
+    manifest_row_at(m, laid.tree, rows, name, lent)
 }

@@ -1,4 +1,5 @@
 -- What is left of trees and segments, added. Assumes nothing.
+use Rattle.std.specs.Prelude.{None, Option, Some}
 use Prim.Native.Nat.{ℕ, zero, suc, ◌+◌, ◌/◌, ◌<◌}
 use mathlib.Core.Path.{◌≡◌, refl, sym, ap, ◌∙◌}
 use mathlib.Core.Bool.{Bool, true, false}
@@ -18,8 +19,6 @@ use Rattle.records.specs.Decode.{bytes_in, tree_in, segment_in, segments_in, nam
 use Rattle.records.specs.Fill.{empty, plus, sum, fits, bytes, key_fill, name_keys, tree_fill, segment_fill}
 use Rattle.records.specs.declared.Fill.{Fill}
 use Rattle.records.specs.declared.Limits.{Limits}
-use Rattle.records.specs.declared.Name.{Name}
-use Rattle.records.specs.declared.Name.TheVariants.{Absent, Named}
 use Rattle.records.specs.declared.Place.{Place}
 use Rattle.records.specs.declared.SegmentRow.{SegmentRow}
 use Rattle.records.specs.declared.TreeRow.{TreeRow}
@@ -27,8 +26,6 @@ use Rattle.records.proofs.Sums.{fill_same, plus_empty, empty_plus}
 use Rattle.measure.specs.Tests.{all_below}
 use Rattle.measure.specs.Placed.{tree_placed}
 use Rattle.measure.specs.Walk.{add_of, segment_row_walk}
-use Rattle.measure.specs.declared.Measured.{Measured}
-use Rattle.measure.specs.declared.Measured.TheVariants.{Broken, Fills}
 use Rattle.measure.proofs.Steps.{step_then}
 use Rattle.measure.proofs.Rows.{step_key, tree_step, tree_short}
 use Rattle.segments.proofs.Places.{and_both}
@@ -49,7 +46,7 @@ use Rattle.project_lay.proofs.After.{after_gone, after_kept, pieces_after, no_pr
 -- ---- a tree
 
 -- one that is passed on, walked as that of a segment without a prefix
-pub passed_added : (lim : Limits) (views runs pool : List ℕ) (t : TreeRow) (c : Fill) (q : Measured) → tree_kept lim views runs pool t ≡ true → fits c lim.fill ≡ true
+pub passed_added : (lim : Limits) (views runs pool : List ℕ) (t : TreeRow) (c : Fill) (q : Option Fill) → tree_kept lim views runs pool t ≡ true → fits c lim.fill ≡ true
     → q ≡ segment_row_walk lim views runs (length pool) (record { prefix = record { at = 0; len = 0 }; tree = t }) c → q ≡ add_of lim.fill c (tree_fill (tree_in runs views pool t))
 unfolding tree_kept segment_row_walk add_of
 passed_added lim views runs pool t c q h k e =
@@ -60,14 +57,14 @@ passed_added lim views runs pool t c q h k e =
     e
     ∙ (step_then (step_key lim.fill lim.prefix pool p) (tree_step lim pool views runs t)).gives c k
     ∙ rw (le-leb (0 + 0) (length pool) (omega arith), w.0, w.1, no_prefix pool, le-leb 0 lim.prefix (omega arith))
-    (ap (λ (f : Fill). pick (fits (plus c f) lim.fill) (Fills (plus c f)) Broken) (empty_plus x))
+    (ap (λ (f : Fill). pick (fits (plus c f) lim.fill) (Some (plus c f)) None) (empty_plus x))
 
 module _ (most : Fill) (pool : List ℕ) (a : SegmentAction) (t : Tree) (c : Fill) where
-  pub tree_dropped : fits c most ≡ true → a ≡ Drop → Fills c ≡ add_of most c (tree_fill (tree_after (action_in pool a) t))
+  pub tree_dropped : fits c most ≡ true → a ≡ Drop → Some c ≡ add_of most c (tree_fill (tree_after (action_in pool a) t))
   unfolding tree_fill
   tree_dropped h e = rw e (added_none most c h ∙ ap (add_of most c) (sym (plus_empty empty)))
 
-  module _ (q : Measured) where
+  module _ (q : Option Fill) where
     pub tree_shown_lem : (r : Reach) → a ≡ Project r → q ≡ add_of most c (tree_fill (tree_shown (reach_of pool r) t)) → q ≡ add_of most c (tree_fill (tree_after (action_in pool a) t))
     tree_shown_lem r e h = rw e h
 
@@ -77,21 +74,21 @@ module _ (most : Fill) (pool : List ℕ) (a : SegmentAction) (t : Tree) (c : Fil
 -- ---- a segment: its tree, then its row and its prefix
 
 module _ (most : Fill) (a : Action) (s : Segment) (c : Fill) (b : Bool) (e : b ≡ stays_by a s.tree) where
-  pub segment_gone : fits c most ≡ true → b ≡ false → Fills c ≡ add_of most c (sum segment_fill (segment_after a s))
+  pub segment_gone : fits c most ≡ true → b ≡ false → Some c ≡ add_of most c (sum segment_fill (segment_after a s))
   segment_gone h n = rw (after_gone a s b e n) (added_none most c h)
 
   abbrev front : ℕ → Fill
   front n = record { segments = 1; views = 0; runs = 0; borrows = 0; ids = 0; bytes = n }
 
-  module _ (h : b ≡ true) (u : Measured) (p : u ≡ add_of most c (tree_fill (tree_after a s.tree))) where
+  module _ (h : b ≡ true) (u : Option Fill) (p : u ≡ add_of most c (tree_fill (tree_after a s.tree))) where
     parts : plus (tree_fill (tree_after a s.tree)) (front (length s.prefix)) ≡ sum segment_fill (segment_after a s)
     unfolding segment_fill
     parts = rw (after_kept a s b e h) (fill_same (omega arith))
 
-    pub segment_broken : u ≡ Broken → Broken ≡ add_of most c (sum segment_fill (segment_after a s))
+    pub segment_broken : u ≡ None → None ≡ add_of most c (sum segment_fill (segment_after a s))
     segment_broken k = added_broken most c (tree_fill (tree_after a s.tree)) (front (length s.prefix)) (sum segment_fill (segment_after a s)) parts u p k
 
-    pub segment_added : (d : Fill) (k : List ℕ) (q : Measured) → u ≡ Fills d → k ≡ s.prefix → q ≡ add_of most d (front (length k)) → q ≡ add_of most c (sum segment_fill (segment_after a s))
+    pub segment_added : (d : Fill) (k : List ℕ) (q : Option Fill) → u ≡ Some d → k ≡ s.prefix → q ≡ add_of most d (front (length k)) → q ≡ add_of most c (sum segment_fill (segment_after a s))
     segment_added d k q g i j =
         added_on most c (tree_fill (tree_after a s.tree)) (front (length s.prefix)) (sum segment_fill (segment_after a s)) parts u d q p g (j ∙ ap (λ (l : List ℕ). add_of most d (front (length l))) i)
 
@@ -143,38 +140,38 @@ module _ (rows runs views pool : List ℕ) (w : Window) (c : Config) (n : ℕ) (
 
 -- ---- the name
 
-module _ (most : Fill) (pool : List ℕ) (n : Name) (c : Fill) where
-  pub name_none : fits c most ≡ true → n ≡ Absent → Fills c ≡ add_of most c (sum key_fill (name_keys (name_in pool n)))
+module _ (most : Fill) (pool : List ℕ) (n : Option Place) (c : Fill) where
+  pub name_none : fits c most ≡ true → n ≡ None → Some c ≡ add_of most c (sum key_fill (name_keys (name_in pool n)))
   name_none h e = rw e (added_none most c h)
 
-  pub name_added : (p : Place) (k : List ℕ) (q : Measured) → n ≡ Named p → k ≡ bytes_in pool p → q ≡ add_of most c (bytes (length k)) → q ≡ add_of most c (sum key_fill (name_keys (name_in pool n)))
+  pub name_added : (p : Place) (k : List ℕ) (q : Option Fill) → n ≡ Some p → k ≡ bytes_in pool p → q ≡ add_of most c (bytes (length k)) → q ≡ add_of most c (sum key_fill (name_keys (name_in pool n)))
   name_added p k q e h g = rw e (g ∙ ap (λ (l : List ℕ). add_of most c (key_fill l)) h ∙ ap (add_of most c) (sym (plus_empty (key_fill (bytes_in pool p)))))
 
 -- ---- the whole: the tree, the segments, the name
 
-module _ (most : Fill) (t s n : Fill) (u : Measured) (p : u ≡ add_of most empty t) where
-  pub body_broken : u ≡ Broken → Broken ≡ add_of most empty (plus t (plus s n))
+module _ (most : Fill) (t s n : Fill) (u : Option Fill) (p : u ≡ add_of most empty t) where
+  pub body_broken : u ≡ None → None ≡ add_of most empty (plus t (plus s n))
   body_broken h = added_broken most empty t (plus s n) (plus t (plus s n)) refl u p h
 
-  module _ (d : Fill) (h : u ≡ Fills d) where
+  module _ (d : Fill) (h : u ≡ Some d) where
     pub body_fits : fits d most ≡ true
     body_fits = (added_is most empty t d (sym p ∙ h)).1
 
-    module _ (v : Measured) (g : v ≡ add_of most d s) where
-      pub body_broken_late : v ≡ Broken → Broken ≡ add_of most empty (plus t (plus s n))
-      body_broken_late k = added_on most empty t (plus s n) (plus t (plus s n)) refl u d Broken p h (added_broken most d s n (plus s n) refl v g k)
+    module _ (v : Option Fill) (g : v ≡ add_of most d s) where
+      pub body_broken_late : v ≡ None → None ≡ add_of most empty (plus t (plus s n))
+      body_broken_late k = added_on most empty t (plus s n) (plus t (plus s n)) refl u d None p h (added_broken most d s n (plus s n) refl v g k)
 
-      module _ (e : Fill) (k : v ≡ Fills e) where
+      module _ (e : Fill) (k : v ≡ Some e) where
         pub body_fits_late : fits e most ≡ true
         body_fits_late = (added_is most d s e (sym g ∙ k)).1
 
-        pub body_added : (q : Measured) → q ≡ add_of most e n → q ≡ add_of most empty (plus t (plus s n))
+        pub body_added : (q : Option Fill) → q ≡ add_of most e n → q ≡ add_of most empty (plus t (plus s n))
         body_added q i = added_on most empty t (plus s n) (plus t (plus s n)) refl u d q p h (added_on most d s n (plus s n) refl v e q g k i)
 
 -- the tree's action, resolved without a prefix
 pub tree_is : (pool : List ℕ) (c : Config) (a : SegmentAction) (t : Tree) → action_in pool a ≡ action_of c 0 (part_of pool 0 0) → tree_after (action_in pool a) t ≡ tree_after (action_of c 0 []) t
 tree_is pool c a t h = rw (h, no_prefix pool)
 
-pub tree_added_as : (most : Fill) (pool : List ℕ) (c : Config) (a : SegmentAction) (t : Tree) (u : Measured) → action_in pool a ≡ action_of c 0 (part_of pool 0 0)
+pub tree_added_as : (most : Fill) (pool : List ℕ) (c : Config) (a : SegmentAction) (t : Tree) (u : Option Fill) → action_in pool a ≡ action_of c 0 (part_of pool 0 0)
     → u ≡ add_of most empty (tree_fill (tree_after (action_in pool a) t)) → u ≡ add_of most empty (tree_fill (tree_after (action_of c 0 []) t))
 tree_added_as most pool c a t u h e = e ∙ ap (λ (x : Tree). add_of most empty (tree_fill x)) (tree_is pool c a t h)

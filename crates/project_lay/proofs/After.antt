@@ -1,4 +1,6 @@
 -- What becomes of a tree and of a segment, by the tests that the code makes. Assumes nothing.
+use Rattle.std.specs.Option.{is_some}
+use Rattle.std.specs.Prelude.{None, Option, Some}
 use Prim.Native.Nat.{ℕ, zero, suc, ◌+◌}
 use mathlib.Core.Path.{◌≡◌, refl, sym, ap, ◌∙◌}
 use mathlib.Core.Bool.{Bool, true, false, not, ◌&&◌}
@@ -15,8 +17,6 @@ use Rattle.records.specs.Model.{View, Run, Tree, Segment}
 use Rattle.records.specs.Fill.{empty, plus, sum, fits, view_fill, run_fill, tree_fill}
 use Rattle.records.specs.declared.Fill.{Fill}
 use Rattle.measure.specs.Walk.{add_of}
-use Rattle.measure.specs.declared.Measured.{Measured}
-use Rattle.measure.specs.declared.Measured.TheVariants.{Broken, Fills}
 use Rattle.measure.proofs.Fits.{says_fits}
 use Rattle.merge.specs.Tree.{no_views, no_runs, is_empty}
 use Rattle.project_views.specs.Shown.{tree_shown}
@@ -39,20 +39,20 @@ empty_is : (t : Tree) → is_empty t ≡ fits (plus empty (tree_fill t)) empty
 unfolding is_empty tree_fill
 empty_is t = empty_fills t.l0 t.runs
 
-module _ (t : Tree) (u : Measured) (e : u ≡ add_of empty empty (tree_fill t)) where
-  pub left_some : u ≡ Broken → true ≡ not (is_empty t)
+module _ (t : Tree) (u : Option Fill) (e : u ≡ add_of empty empty (tree_fill t)) where
+  pub left_some : u ≡ None → true ≡ not (is_empty t)
   unfolding add_of
   left_some h = rw (empty_is t) (go (fits (plus empty (tree_fill t)) empty) (sym h ∙ e))
     where
-      go : (b : Bool) → Broken ≡ pick b (Fills (plus empty (tree_fill t))) Broken → true ≡ not b
+      go : (b : Bool) → None ≡ pick b (Some (plus empty (tree_fill t))) None → true ≡ not b
       go true k = let z : ◌≡◌ {A = ℕ} 0 1 = cc in absurd (omega arith)
       go false k = refl
 
-  pub left_none : (d : Fill) → u ≡ Fills d → false ≡ not (is_empty t)
+  pub left_none : (d : Fill) → u ≡ Some d → false ≡ not (is_empty t)
   unfolding add_of
   left_none d h = rw (empty_is t) (go (fits (plus empty (tree_fill t)) empty) (sym h ∙ e))
     where
-      go : (b : Bool) → Fills d ≡ pick b (Fills (plus empty (tree_fill t))) Broken → false ≡ not b
+      go : (b : Bool) → Some d ≡ pick b (Some (plus empty (tree_fill t))) None → false ≡ not b
       go true k = refl
       go false k = let z : ◌≡◌ {A = ℕ} 0 1 = cc in absurd (omega arith)
 
@@ -93,3 +93,9 @@ pieces_after c place f (suc n) =
 pub no_prefix : (pool : List ℕ) → part_of pool 0 0 ≡ []
 unfolding part_of
 no_prefix pool = pick_same (leb (0 + 0) (length pool)) []
+
+pub left_is : (t : Tree) (u : Option Fill) (r : Bool) → u ≡ add_of empty empty (tree_fill t) → is_some u ≡ not r → r ≡ not (is_empty t)
+left_is t None true e h = left_some t None e refl
+left_is t None false e h = let z : ◌≡◌ {A = ℕ} 0 1 = cc in absurd (omega arith)
+left_is t (Some d) true e h = let z : ◌≡◌ {A = ℕ} 0 1 = cc in absurd (omega arith)
+left_is t (Some d) false e h = left_none t (Some d) e d refl

@@ -1,12 +1,11 @@
 -- What is left of trees and segments, laid. Assumes nothing.
+use Rattle.std.specs.Prelude.{None}
 use Prim.Native.Nat.{ℕ, ◌+◌, ◌-◌, ◌*◌, ◌/◌, ◌≤◌}
 use mathlib.Core.Path.{◌≡◌, sym, ap, ◌∙◌}
 use mathlib.Core.Bool.{Bool, true, false}
 use mathlib.Core.List.{List, append-nil}
 use native.Mathlib.Omega.{arith}
 use lib.ListN.{length}
-use Rattle.ids.specs.declared.ViewMark.TheVariants as view_marks
-use Rattle.ids.specs.declared.SstMark.TheVariants as sst_marks
 use Rattle.tables.specs.Layout.{write, joined}
 use Rattle.tables.specs.Window.{held_of}
 use Rattle.tables.specs.declared.Window.{Window}
@@ -49,7 +48,7 @@ TreeLaid c q b b' d d' e e' t =
     × ((b' ≡ write b (c.runs * 3) (tree_runs_laid c t)) × ((d' ≡ write d (c.views * 16) (tree_views_laid c t)) × (e' ≡ write e c.bytes (tree_bytes t))))
 
 new_laid : (c : Fill) (b d e : List ℕ) (r : TreeRow)
-    → r ≡ record { view = view_marks.None; sst = sst_marks.None; l0 = record { first = c.views; count = c.views - c.views }; compacted = record { first = c.runs; count = c.runs - c.runs } }
+    → r ≡ record { view = None; sst = None; l0 = record { first = c.views; count = c.views - c.views }; compacted = record { first = c.runs; count = c.runs - c.runs } }
     → TreeLaid c (record { tree = r; past = c }) b b d d e e new_tree
 unfolding tree_runs_laid tree_views_laid tree_bytes views_laid runs_laid runs_views_laid
 new_laid c b d e r h = (
@@ -59,7 +58,7 @@ new_laid c b d e r h = (
 
 module _ (pool : List ℕ) (a : SegmentAction) (t : Tree) (c : Fill) where
   pub put_dropped : (b d e : List ℕ) (r : TreeRow) → a ≡ Drop
-      → r ≡ record { view = view_marks.None; sst = sst_marks.None; l0 = record { first = c.views; count = c.views - c.views }; compacted = record { first = c.runs; count = c.runs - c.runs } }
+      → r ≡ record { view = None; sst = None; l0 = record { first = c.views; count = c.views - c.views }; compacted = record { first = c.runs; count = c.runs - c.runs } }
       → TreeLaid c (record { tree = r; past = c }) b b d d e e (tree_after (action_in pool a) t)
   put_dropped b d e r k h = rw k (new_laid c b d e r h)
 

@@ -13,7 +13,6 @@ ghost use Rattle.project_lay.specs.Steps.{kept_as, piece_at};
 
 use crate::left_measured::stays;
 use emit::{LaidTree, put_prefix, put_segment_row, put_tree, tree_row};
-use ids::{SstMark, ViewMark};
 use project_ranges::{ProjectionConfig, SegmentAction, resolve_segment_action};
 use project_views::project_tree_in_place;
 use records::{Fill, Place, SegmentRow, TreeRow, segment_at};
@@ -41,7 +40,7 @@ fn put_tree_after(
 {
     match a {
         SegmentAction::Drop => {
-            let tree = tree_row(ViewMark::None, SstMark::None, c, c, c);
+            let tree = tree_row(None, None, c, c, c);
             LaidTree { tree, past: c }
         }
         SegmentAction::Project(r) => {
@@ -76,16 +75,15 @@ fn put_segment_kept(
     ensures out_views_after { out_views.new ≡ write out_views.old (c.views * 16) (tree_views_laid (past_prefix c (kept_as (action_in pool.now a) (segment_in runs.now views.now pool.now s))) (kept_as (action_in pool.now a) (segment_in runs.now views.now pool.now s)).tree) }
     ensures out_pool_after { out_pool.new ≡ write out_pool.old c.bytes (segment_bytes (kept_as (action_in pool.now a) (segment_in runs.now views.now pool.now s))) }
 {
-    let p = s.prefix;
-    let t = s.tree;
-    let to = put_prefix(p, pool, out_pool, c);
-    let laid = put_tree_after(a, t, runs, views, pool, out_runs, out_views, out_pool, to);
-    let tree = laid.tree;
+    let to = put_prefix(s.prefix, pool, out_pool, c);
+    let laid = put_tree_after(
+        a, s.tree, runs, views, pool, out_runs, out_views, out_pool, to,
+    );
     let prefix = Place {
         at: c.bytes,
         len: to.bytes - c.bytes,
     };
-    put_segment_row(prefix, tree, out_segments, c.segments);
+    put_segment_row(prefix, laid.tree, out_segments, c.segments);
     laid.past
 }
 
@@ -112,8 +110,7 @@ fn put_segment_after(
     ensures out_views_after { out_views.new ≡ write out_views.old (c.views * 16) (segments_views_laid c (segment_after (action_in pool.now a) (segment_in runs.now views.now pool.now s))) }
     ensures out_pool_after { out_pool.new ≡ write out_pool.old c.bytes (joined segment_bytes (segment_after (action_in pool.now a) (segment_in runs.now views.now pool.now s))) }
 {
-    let t = s.tree;
-    if stays(a, t, runs, views, pool) {
+    if stays(a, s.tree, runs, views, pool) {
         return put_segment_kept(
             a,
             s,
@@ -158,8 +155,7 @@ fn put_segment_at(
     ensures out_pool_after { out_pool.new ≡ write out_pool.old c.bytes (joined segment_bytes (piece_at (config_in pool.now config own.now) place (segment_in runs.now views.now pool.now (segment_at segments.now i)))) }
 {
     let s = segment_at(segments, i);
-    let p = s.prefix;
-    let a = resolve_segment_action(pool, p, place, config, own);
+    let a = resolve_segment_action(pool, s.prefix, place, config, own);
     put_segment_after(
         a,
         s,
@@ -200,13 +196,11 @@ fn put_segments_after(
     ensures out_pool_after { out_pool.new ≡ write out_pool.old c.bytes (joined segment_bytes (segments_after (config_in pool.now config own.now) 1 (segments_in segments.now runs.now views.now pool.now w))) }
 {
     let n = held(w, segments.len() / 12);
-    let first = w.first;
     let mut to = c;
-    let mut k = 0;
-    while k < n {
+    for k in 0..n {
         to = put_segment_at(
             segments,
-            first + k,
+            w.first + k,
             k + 1,
             runs,
             views,
@@ -219,7 +213,6 @@ fn put_segments_after(
             out_pool,
             to,
         );
-        k += 1;
     }
     to
 }
@@ -254,8 +247,6 @@ pub fn put_trees_after(
     let whole = Place { at: 0, len: 0 };
     let a = resolve_segment_action(pool, whole, 0, config, own);
     let laid = put_tree_after(a, t, runs, views, pool, out_runs, out_views, out_pool, c);
-    let tree = laid.tree;
-    let at = laid.past;
     let past = put_segments_after(
         segments,
         w,
@@ -268,7 +259,10 @@ pub fn put_trees_after(
         out_runs,
         out_views,
         out_pool,
-        at,
+        laid.past,
     );
-    LaidTree { tree, past }
+    LaidTree {
+        tree: laid.tree,
+        past,
+    }
 }

@@ -24,14 +24,11 @@ fn put_ssts(views: &[u64], w: Window, out_ids: &mut [u64], c: Fill) -> Fill
     ensures out_ids_after { out_ids.new ≡ write out_ids.old (c.ids * 2) (ids_laid (ssts_in views.now w)) }
 {
     let n = held(w, views.len() / 16);
-    let first = w.first;
     let mut to = c;
-    let mut k = 0;
-    while k < n {
-        let v = view_at(views, first + k);
+    for k in 0..n {
+        let v = view_at(views, w.first + k);
         let sst = v.sst;
         to = put_id(sst, out_ids, to);
-        k += 1;
     }
     to
 }
@@ -43,14 +40,11 @@ fn put_runs_ssts(runs: &[u64], w: Window, views: &[u64], out_ids: &mut [u64], c:
     ensures out_ids_after { out_ids.new ≡ write out_ids.old (c.ids * 2) (ids_laid (runs_ssts runs.now views.now w)) }
 {
     let n = held(w, runs.len() / 3);
-    let first = w.first;
     let mut to = c;
-    let mut k = 0;
-    while k < n {
-        let x = run_at(runs, first + k);
+    for k in 0..n {
+        let x = run_at(runs, w.first + k);
         let run = x.views;
         to = put_ssts(views, run, out_ids, to);
-        k += 1;
     }
     to
 }
@@ -61,10 +55,8 @@ fn put_tree_ssts(t: TreeRow, runs: &[u64], views: &[u64], out_ids: &mut [u64], c
     ensures value { result ≡ plus c (id_fill (length (tree_ssts runs.now views.now t))) }
     ensures out_ids_after { out_ids.new ≡ write out_ids.old (c.ids * 2) (ids_laid (tree_ssts runs.now views.now t)) }
 {
-    let l0 = t.l0;
-    let compacted = t.compacted;
-    let to = put_ssts(views, l0, out_ids, c);
-    put_runs_ssts(runs, compacted, views, out_ids, to)
+    let to = put_ssts(views, t.l0, out_ids, c);
+    put_runs_ssts(runs, t.compacted, views, out_ids, to)
 }
 
 // Appends those of what becomes of a tree.
@@ -107,10 +99,8 @@ fn ids_segment_at(
     ensures out_ids_after { out_ids.new ≡ write out_ids.old (c.ids * 2) (ids_laid (ids_used (segments_views (piece_at (config_in pool.now config own.now) place (segment_in runs.now views.now pool.now (segment_at segments.now i)))))) }
 {
     let s = segment_at(segments, i);
-    let p = s.prefix;
-    let t = s.tree;
-    let a = resolve_segment_action(pool, p, place, config, own);
-    ids_after(a, t, runs, views, pool, out_ids, c)
+    let a = resolve_segment_action(pool, s.prefix, place, config, own);
+    ids_after(a, s.tree, runs, views, pool, out_ids, c)
 }
 
 // Appends those of what is left of the segments of a window.
@@ -130,13 +120,11 @@ fn ids_segments_after(
     ensures out_ids_after { out_ids.new ≡ write out_ids.old (c.ids * 2) (ids_laid (ids_used (segments_views (segments_after (config_in pool.now config own.now) 1 (segments_in segments.now runs.now views.now pool.now w))))) }
 {
     let n = held(w, segments.len() / 12);
-    let first = w.first;
     let mut to = c;
-    let mut k = 0;
-    while k < n {
+    for k in 0..n {
         to = ids_segment_at(
             segments,
-            first + k,
+            w.first + k,
             k + 1,
             runs,
             views,
@@ -146,7 +134,6 @@ fn ids_segments_after(
             out_ids,
             to,
         );
-        k += 1;
     }
     to
 }

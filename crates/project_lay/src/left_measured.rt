@@ -13,10 +13,10 @@ ghost use Rattle.project_lay.specs.After.{tree_after, segment_after, segments_af
 ghost use Rattle.project_lay.specs.Steps.{stays_by, piece_at, tree_kept, rows_kept};
 
 use keys::part;
-use measure::{Measured, add, segment_row};
+use measure::{add, segment_row};
 use project_ranges::{ProjectionConfig, SegmentAction, resolve_segment_action};
 use project_views::{Reach, measure_tree_shown};
-use records::{Fill, Limits, Name, Place, SegmentRow, TreeRow, segment_at};
+use records::{Fill, Limits, Place, SegmentRow, TreeRow, segment_at};
 use tables::{Window, held};
 
 // Whether the range `r` leaves something of a tree. The measure ends at the first view that is left.
@@ -31,10 +31,7 @@ fn is_left(t: TreeRow, runs: &[u64], views: &[u64], pool: &[u8], r: Reach) -> bo
         ids: 0,
         bytes: 0,
     };
-    match measure_tree_shown(none, t, runs, views, pool, r, none) {
-        Measured::Broken => true,
-        Measured::Fills(_) => false,
-    }
+    measure_tree_shown(none, t, runs, views, pool, r, none).is_none()
 }
 
 // Whether a segment stays.
@@ -58,7 +55,7 @@ fn measure_passed(
     views: &[u64],
     pool: &[u8],
     c: Fill,
-) -> Measured
+) -> Option<Fill>
     requires t_value { tree_kept lim views.now runs.now pool.now t ≡ true }
     requires fill_value { fits c lim.fill ≡ true }
     ensures { result ≡ add_of lim.fill c (tree_fill (tree_in runs.now views.now pool.now t)) }
@@ -77,15 +74,14 @@ fn measure_tree_after(
     views: &[u64],
     pool: &[u8],
     c: Fill,
-) -> Measured
+) -> Option<Fill>
     requires t_value { tree_kept lim views.now runs.now pool.now t ≡ true }
     requires fill_value { fits c lim.fill ≡ true }
     ensures { result ≡ add_of lim.fill c (tree_fill (tree_after (action_in pool.now a) (tree_in runs.now views.now pool.now t))) }
 {
-    let most = lim.fill;
     match a {
-        SegmentAction::Drop => Measured::Fills(c),
-        SegmentAction::Project(r) => measure_tree_shown(most, t, runs, views, pool, r, c),
+        SegmentAction::Drop => Some(c),
+        SegmentAction::Project(r) => measure_tree_shown(lim.fill, t, runs, views, pool, r, c),
         SegmentAction::PassThrough => measure_passed(lim, t, runs, views, pool, c),
     }
 }
@@ -99,23 +95,19 @@ fn measure_segment_after(
     views: &[u64],
     pool: &[u8],
     c: Fill,
-) -> Measured
+) -> Option<Fill>
     requires tree_value { tree_kept lim views.now runs.now pool.now s.tree ≡ true }
     requires fill_value { fits c lim.fill ≡ true }
     ensures { result ≡ add_of lim.fill c (sum segment_fill (segment_after (action_in pool.now a) (segment_in runs.now views.now pool.now s))) }
 {
     let t = s.tree;
     if !stays(a, t, runs, views, pool) {
-        return Measured::Fills(c);
+        return Some(c);
     }
-    let u = measure_tree_after(lim, a, t, runs, views, pool, c);
-    let Measured::Fills(d) = u else {
-        return Measured::Broken;
-    };
-    let most = lim.fill;
+    let d = measure_tree_after(lim, a, t, runs, views, pool, c)?;
     let n = part(pool, s.prefix.at, s.prefix.len).len();
     add(
-        most,
+        lim.fill,
         d,
         Fill {
             segments: 1,
@@ -140,15 +132,14 @@ fn measure_segment_at(
     config: ProjectionConfig,
     own: &[u64],
     c: Fill,
-) -> Measured
+) -> Option<Fill>
     requires i_in_bounds { i < length segments.now / 12 }
     requires i_value { tree_kept lim views.now runs.now pool.now (segment_at segments.now i).tree ≡ true }
     requires fill_value { fits c lim.fill ≡ true }
     ensures { result ≡ add_of lim.fill c (sum segment_fill (piece_at (config_in pool.now config own.now) place (segment_in runs.now views.now pool.now (segment_at segments.now i)))) }
 {
     let s = segment_at(segments, i);
-    let p = s.prefix;
-    let a = resolve_segment_action(pool, p, place, config, own);
+    let a = resolve_segment_action(pool, s.prefix, place, config, own);
     measure_segment_after(lim, a, s, runs, views, pool, c)
 }
 
@@ -163,20 +154,18 @@ fn measure_segments_after(
     config: ProjectionConfig,
     own: &[u64],
     c: Fill,
-) -> Measured
+) -> Option<Fill>
     requires w_value { rows_kept lim segments.now views.now runs.now pool.now w ≡ true }
     requires fill_value { fits c lim.fill ≡ true }
     ensures { result ≡ add_of lim.fill c (sum segment_fill (segments_after (config_in pool.now config own.now) 1 (segments_in segments.now runs.now views.now pool.now w))) }
 {
     let n = held(w, segments.len() / 12);
-    let first = w.first;
     let mut d = c;
-    let mut k = 0;
-    while k < n {
-        let s = measure_segment_at(
+    for k in 0..n {
+        d = measure_segment_at(
             lim,
             segments,
-            first + k,
+            w.first + k,
             k + 1,
             runs,
             views,
@@ -184,24 +173,19 @@ fn measure_segments_after(
             config,
             own,
             d,
-        );
-        let Measured::Fills(e) = s else {
-            return Measured::Broken;
-        };
-        d = e;
-        k += 1;
+        )?;
     }
-    Measured::Fills(d)
+    Some(d)
 }
 
 // Adds the name.
-fn measure_name(most: Fill, n: Name, pool: &[u8], c: Fill) -> Measured
+fn measure_name(most: Fill, n: Option<Place>, pool: &[u8], c: Fill) -> Option<Fill>
     requires { fits c most ≡ true }
     ensures { result ≡ add_of most c (sum key_fill (name_keys (name_in pool.now n))) }
 {
     match n {
-        Name::Absent => Measured::Fills(c),
-        Name::Named(p) => {
+        None => Some(c),
+        Some(p) => {
             let long = part(pool, p.at, p.len).len();
             add(
                 most,
@@ -226,13 +210,13 @@ pub fn measure_narrowed(
     segments: &[u64],
     t: TreeRow,
     w: Window,
-    n: Name,
+    n: Option<Place>,
     runs: &[u64],
     views: &[u64],
     pool: &[u8],
     config: ProjectionConfig,
     own: &[u64],
-) -> Measured
+) -> Option<Fill>
     requires t_value { tree_kept lim views.now runs.now pool.now t ≡ true }
     requires w_value { rows_kept lim segments.now views.now runs.now pool.now w ≡ true }
     ensures { result ≡ add_of lim.fill empty (plus (tree_fill (tree_after (action_of (config_in pool.now config own.now) 0 []) (tree_in runs.now views.now pool.now t))) (plus (sum segment_fill (segments_after (config_in pool.now config own.now) 1 (segments_in segments.now runs.now views.now pool.now w))) (sum key_fill (name_keys (name_in pool.now n))))) }
@@ -245,16 +229,9 @@ pub fn measure_narrowed(
         ids: 0,
         bytes: 0,
     };
-    let most = lim.fill;
     let whole = Place { at: 0, len: 0 };
     let a = resolve_segment_action(pool, whole, 0, config, own);
-    let u = measure_tree_after(lim, a, t, runs, views, pool, none);
-    let Measured::Fills(d) = u else {
-        return Measured::Broken;
-    };
-    let v = measure_segments_after(lim, segments, w, runs, views, pool, config, own, d);
-    let Measured::Fills(e) = v else {
-        return Measured::Broken;
-    };
-    measure_name(most, n, pool, e)
+    let d = measure_tree_after(lim, a, t, runs, views, pool, none)?;
+    let e = measure_segments_after(lim, segments, w, runs, views, pool, config, own, d)?;
+    measure_name(lim.fill, n, pool, e)
 }

@@ -1,4 +1,5 @@
 -- What becomes of a tree. Assumes nothing.
+use Rattle.std.specs.Prelude.{None, Option, Some}
 use Prim.Native.Nat.{ℕ, ◌/◌}
 use mathlib.Core.Path.{◌≡◌, refl, sym, ap, ◌∙◌}
 use mathlib.Core.Bool.{Bool, true, false}
@@ -23,19 +24,17 @@ use Rattle.project_ranges.specs.Own.{resolved}
 use Rattle.project_ranges.specs.Action.{Action, project, unless_empty, combined, action_of}
 use Rattle.project_ranges.specs.Args.{asked_in, own_row, config_in, action_in}
 use Rattle.project_ranges.specs.Steps.{end_or, resolved_row, own_at, met_with, sole_row}
-use Rattle.project_ranges.specs.declared.Global.{Global}
-use Rattle.project_ranges.specs.declared.Global.TheVariants as global
 use Rattle.project_ranges.specs.declared.ProjectionConfig.{ProjectionConfig}
 use Rattle.project_ranges.specs.declared.SegmentAction.{SegmentAction}
 use Rattle.project_ranges.specs.declared.SegmentAction.TheVariants.{Drop, Project}
 use Rattle.project_ranges.proofs.Rows.{own_is}
 use Rattle.project_ranges.proofs.Contains.{resolved_is, end_kept}
 
-module _ (pool : List ℕ) (q : Reach) (g : Global) where
-  pub met_unset : g ≡ global.Unset → action_in pool (Project q) ≡ met_with (reach_of pool q) (asked_in pool g)
+module _ (pool : List ℕ) (q : Reach) (g : Option Range) where
+  pub met_unset : g ≡ None → action_in pool (Project q) ≡ met_with (reach_of pool q) (asked_in pool g)
   met_unset e = rw e
 
-  module _ (a : Range) (m : Reach) (b : Bool) (e : g ≡ global.Set a) (h : reach_of pool m ≡ meet_of (edges_of pool a) (reach_of pool q))
+  module _ (a : Range) (m : Reach) (b : Bool) (e : g ≡ Some a) (h : reach_of pool m ≡ meet_of (edges_of pool a) (reach_of pool q))
       (f : b ≡ holds_none (reach_of pool m)) where
     met_is : met_with (reach_of pool q) (asked_in pool g) ≡ pick b Action.drop (project (reach_of pool m))
     met_is =
@@ -51,13 +50,13 @@ module _ (pool : List ℕ) (q : Reach) (g : Global) where
 
 pub ruleset mets = (met_unset, met_empty, met_left)
 
-pub sole_set : (g : Global) (a : Range) (u : Until) → g ≡ global.Set a → u ≡ end_or a.end Unbounded
+pub sole_set : (g : Option Range) (a : Range) (u : Until) → g ≡ Some a → u ≡ end_or a.end Unbounded
     → Project (record { start = a.start; end = u }) ≡ sole_row g
 sole_set g a u e h = rw (e, h)
 
-sole_is : (pool : List ℕ) (g : Global) (place : ℕ) (p : List ℕ) → action_in pool (sole_row g) ≡ combined Own.unset (asked_in pool g) place p
-sole_is pool global.Unset place p = refl
-sole_is pool (global.Set r) place p = ap project (edges_same {b = edges_of pool r} refl (end_kept pool r.end))
+sole_is : (pool : List ℕ) (g : Option Range) (place : ℕ) (p : List ℕ) → action_in pool (sole_row g) ≡ combined Own.unset (asked_in pool g) place p
+sole_is pool None place p = refl
+sole_is pool (Some r) place p = ap project (edges_same {b = edges_of pool r} refl (end_kept pool r.end))
 
 combined_is : (rs : List Edges) (g : Asked) (place : ℕ) (p : List ℕ) → met_with (resolved p (own_range rs place)) g ≡ combined (table rs) g place p
 combined_is rs Asked.unset place p = refl

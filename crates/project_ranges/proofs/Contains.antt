@@ -1,4 +1,5 @@
 -- Own ranges with their unbounded ends replaced, and when the prefix's range leaves their bounds as they are. Assumes nothing.
+use Rattle.std.specs.Prelude.{None, Option, Some}
 use Prim.Native.Nat.{ℕ, zero, suc, ◌+◌, ◌-◌, ◌≤◌, ◌<◌}
 use mathlib.Core.Path.{◌≡◌, refl, sym, ap, ◌∙◌}
 use mathlib.Core.Bool.{Bool, true, false, ◌||◌}
@@ -16,13 +17,11 @@ use Rattle.keys.specs.Range.{Edge, unbounded, included, excluded}
 use Rattle.keys.specs.Meet as order
 use Rattle.keys.specs.Meet.{start_order, earlier}
 use Rattle.keys.specs.Pool.{part_of, edge_of, edges_of}
-use Rattle.keys.specs.declared.Order.{Order}
-use Rattle.keys.specs.declared.Order.TheVariants.{Less, Equal, Greater}
+use Rattle.std.specs.declared.cmp.Ordering.{Ordering}
+use Rattle.std.specs.declared.cmp.Ordering.TheVariants.{Less, Equal, Greater}
 use Rattle.keys.specs.declared.Bound.{Bound}
 use Rattle.keys.specs.declared.Bound.TheVariants as bound
 use Rattle.keys.specs.declared.Range.{Range}
-use Rattle.keys.specs.declared.Successor as prefix
-use Rattle.keys.specs.declared.Successor.TheVariants.{Nowhere, Grown}
 use Rattle.keys.proofs.Says.{true_says, false_says, says_same}
 use Rattle.keys.proofs.ByteOrder.{Stand, less, same, more, stand, below_irrefl}
 use Rattle.keys.proofs.Sorts.{turn, order_turn}
@@ -84,25 +83,13 @@ end_kept pool (bound.Excluded from len) = refl
 pub says_equal : (a b : List ℕ) → Says (a ≡ b) (same_of a b)
 says_equal a b = go (stand a b)
   where
-    go : {o : Order} → Stand a b o → Says (a ≡ b) (is_equal o)
+    go : {o : Ordering} → Stand a b o → Says (a ≡ b) (is_equal o)
     go (less h) = fails (λ e. below_irrefl (rw e at h))
     go (same h) = holds h
     go (more h) = fails (λ e. below_irrefl (rw e at h))
 
 same_self : (a : List ℕ) → same_of a a ≡ true
 same_self a = true_says (says_equal a a) refl
-
-module _ (a b : List ℕ) (o : Order) (e : o ≡ order_of a b) where
-  pub same_less : o ≡ Less → false ≡ same_of a b
-  same_less h = rw (sym e ∙ h)
-
-  pub same_equal : o ≡ Equal → true ≡ same_of a b
-  same_equal h = rw (sym e ∙ h)
-
-  pub same_greater : o ≡ Greater → false ≡ same_of a b
-  same_greater h = rw (sym e ∙ h)
-
-pub ruleset sames = (same_less, same_equal, same_greater)
 
 -- ---- a key that is a prefix's successor
 
@@ -129,7 +116,7 @@ module _ (k p : List ℕ) (n : ℕ) (l : 0 < n) (m : n ≤ length p) where
   front : length (take (n - 1) p) ≡ n - 1
   front = length-take-le (n - 1) p (omega arith)
 
-  says_up : Says (k ≡ up) (is_top k (grown_top p (Grown n)))
+  says_up : Says (k ≡ up) (is_top k (grown_top p (Some n)))
   says_up = rw (take_last p n l m, last_up_lem (take (n - 1) p) (get_or p (n - 1) 0)) (says_equal k up)
 
   up_long : length up ≡ n
@@ -141,17 +128,17 @@ module _ (k p : List ℕ) (n : ℕ) (l : 0 < n) (m : n ≤ length p) where
   up_front : k ≡ up → take (n - 1) k ≡ take (n - 1) p
   up_front e = ap (take (n - 1)) e ∙ take_at (take (n - 1) p) _ (n - 1) front
 
-  pub grown_long : (length k ≡ n → ⊥) → false ≡ is_top k (grown_top p (Grown n))
+  pub grown_long : (length k ≡ n → ⊥) → false ≡ is_top k (grown_top p (Some n))
   grown_long h = sym (false_says says_up (λ e. h (ap length e ∙ up_long)))
 
-  pub grown_low : get_or k (n - 1) 0 ≤ get_or p (n - 1) 0 → false ≡ is_top k (grown_top p (Grown n))
+  pub grown_low : get_or k (n - 1) 0 ≤ get_or p (n - 1) 0 → false ≡ is_top k (grown_top p (Some n))
   grown_low h = sym (false_says says_up (λ e. let f = up_last e in omega arith))
 
-  pub grown_high : 1 < get_or k (n - 1) 0 - get_or p (n - 1) 0 → false ≡ is_top k (grown_top p (Grown n))
+  pub grown_high : 1 < get_or k (n - 1) 0 - get_or p (n - 1) 0 → false ≡ is_top k (grown_top p (Some n))
   grown_high h = sym (false_says says_up (λ e. let f = up_last e in omega arith))
 
   pub grown_same : (a b : List ℕ) (r : Bool) → length k ≡ n → get_or p (n - 1) 0 < get_or k (n - 1) 0 → get_or k (n - 1) 0 - get_or p (n - 1) 0 ≤ 1
-      → a ≡ part_of k 0 (n - 1) → b ≡ part_of p 0 (n - 1) → r ≡ same_of a b → r ≡ is_top k (grown_top p (Grown n))
+      → a ≡ part_of k 0 (n - 1) → b ≡ part_of p 0 (n - 1) → r ≡ same_of a b → r ≡ is_top k (grown_top p (Some n))
   grown_same a b r e lo hi q w h =
       let f : a ≡ take (n - 1) k = q ∙ part_front k (n - 1) (omega arith) in
       let g : b ≡ take (n - 1) p = w ∙ part_front p (n - 1) (omega arith) in
@@ -162,9 +149,9 @@ module _ (k p : List ℕ) (n : ℕ) (l : 0 < n) (m : n ≤ length p) where
       (λ s. all ∙ rw (x, ← f, ← g) (ap (λ (z : List ℕ). z ++ (get_or p (n - 1) 0 + 1) ∷ []) s), λ s. f ∙ up_front s ∙ sym g)
       (says_equal a b) says_up
 
-abbrev size : prefix.Successor → ℕ
-size Nowhere = 0
-size (Grown n) = n
+abbrev size : Option ℕ → ℕ
+size None = 0
+size (Some n) = n
 
 without_short : (p : List ℕ) → length (without_ff p) ≤ length p
 without_short [] = omega arith
@@ -178,23 +165,23 @@ without_short (x ∷ p) = go (without_ff p) (without_short p)
     go [] h = last (ltb x 255)
     go (y ∷ q) h = omega arith
 
-module _ (k p : List ℕ) (s : prefix.Successor) (e : s ≡ successor_of p) where
+module _ (k p : List ℕ) (s : Option ℕ) (e : s ≡ successor_of p) where
   top_by : is_top k (after p) ≡ is_top k (grown_top p s)
   top_by = ap (is_top k) (sym (successor_after p) ∙ ap (grown_top p) (sym e))
 
-  pub successor_none : s ≡ Nowhere → false ≡ is_top k (after p)
-  successor_none h = sym (top_by ∙ ap (λ (z : prefix.Successor). is_top k (grown_top p z)) h)
+  pub successor_none : s ≡ None → false ≡ is_top k (after p)
+  successor_none h = sym (top_by ∙ ap (λ (z : Option ℕ). is_top k (grown_top p z)) h)
 
-  module _ (n : ℕ) (h : s ≡ Grown n) where
-    pub successor_by : (b : Bool) → b ≡ is_top k (grown_top p (Grown n)) → b ≡ is_top k (after p)
-    successor_by b g = g ∙ sym (top_by ∙ ap (λ (z : prefix.Successor). is_top k (grown_top p z)) h)
+  module _ (n : ℕ) (h : s ≡ Some n) where
+    pub successor_by : (b : Bool) → b ≡ is_top k (grown_top p (Some n)) → b ≡ is_top k (after p)
+    successor_by b g = g ∙ sym (top_by ∙ ap (λ (z : Option ℕ). is_top k (grown_top p z)) h)
 
-module _ (p : List ℕ) (s : prefix.Successor) (n : ℕ) (e : s ≡ successor_of p) (h : s ≡ Grown n) where
+module _ (p : List ℕ) (s : Option ℕ) (n : ℕ) (e : s ≡ successor_of p) (h : s ≡ Some n) where
   left_within : (0 < n) × (n ≤ length p)
   unfolding successor_of
   left_within = go (without_ff p) (without_short p) (sym e ∙ h)
     where
-      go : (q : List ℕ) → length q ≤ length p → left_of q ≡ Grown n → (0 < n) × (n ≤ length p)
+      go : (q : List ℕ) → length q ≤ length p → left_of q ≡ Some n → (0 < n) × (n ≤ length p)
       go [] l f = let z : ◌≡◌ {A = ℕ} 0 1 = cc in absurd (omega arith)
       go (x ∷ q) l f = let z : suc (length q) ≡ n = ap size f in (omega arith, omega arith)
 
@@ -230,7 +217,7 @@ start_before p (excluded a) e = rw e
 pub start_from : (p : List ℕ) (s : Edge) → is_less (start_order s (included p)) ≡ false → start_stays p s ≡ true
 start_from p s e = rw e (edge_self s)
 
-module _ (pool : List ℕ) (s : Bound) (p : Place) (o : Order) (e : o ≡ start_order (edge_of pool s) (edge_of pool (bound.Included p.at p.len))) where
+module _ (pool : List ℕ) (s : Bound) (p : Place) (o : Ordering) (e : o ≡ start_order (edge_of pool s) (edge_of pool (bound.Included p.at p.len))) where
   pub start_less : o ≡ Less → false ≡ start_stays (bytes_in pool p) (edge_of pool s)
   start_less h = sym (start_before (bytes_in pool p) (edge_of pool s) (sym e ∙ h))
 
@@ -246,7 +233,7 @@ included_stays : (k : List ℕ) (t : Top) → under_of k t ≡ same_edge (earlie
 included_stays k nowhere = sym (same_self k)
 included_stays k (at b) = rw (order_turn k b) (go (order_of k b))
   where
-    go : (o : Order) → is_less o ≡ same_edge (pick (is_less (order.or_else (turn o) Less)) (excluded b) (included k)) (included k)
+    go : (o : Ordering) → is_less o ≡ same_edge (pick (is_less (order.or_else (turn o) Less)) (excluded b) (included k)) (included k)
     go Less = sym (same_self k)
     go Equal = refl
     go Greater = refl
@@ -255,7 +242,7 @@ excluded_stays : (k : List ℕ) (t : Top) → (under_of k t || is_top k t) ≡ s
 excluded_stays k nowhere = sym (same_self k)
 excluded_stays k (at b) = go (order_of k b) refl
   where
-    go : (o : Order) → order_of k b ≡ o
+    go : (o : Ordering) → order_of k b ≡ o
         → (is_less (order_of k b) || is_equal (order_of k b)) ≡ same_edge (pick (is_less (order_of b k)) (excluded b) (excluded k)) (excluded k)
     go Less e = rw (order_turn k b) (rw e (sym (same_self k)))
     go Equal e = rw (order_turn k b) (rw e (sym (same_self k)))

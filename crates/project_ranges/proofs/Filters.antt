@@ -1,4 +1,5 @@
 -- What is asked for, and the bits of the mask. Assumes nothing.
+use Rattle.std.specs.Prelude.{None, Option, Some}
 use Prim.Native.Nat.{ℕ, zero, suc, ◌-◌, ◌*◌, ◌/◌, ◌^◌, ◌≤◌, ◌<◌}
 use mathlib.Core.Path.{◌≡◌, refl, sym, ap, ◌∙◌}
 use mathlib.Core.Bool.{Bool, true, false, not}
@@ -18,31 +19,28 @@ use Rattle.keys.specs.declared.Range.{Range}
 use Rattle.keys.proofs.Says.{says_same, says_le}
 use Rattle.project_ranges.specs.Config.{is_noop, bit_of, passes, names_count, refuses10, place10}
 use Rattle.project_ranges.specs.Args.{asked_in, config_in, global_empty}
-use Rattle.project_ranges.specs.declared.Global.TheVariants as global
-use Rattle.project_ranges.specs.declared.Filter.{Filter}
-use Rattle.project_ranges.specs.declared.Filter.TheVariants.{All, Only}
 use Rattle.project_ranges.specs.declared.ProjectionConfig.{ProjectionConfig}
 
 -- ---- nothing asked for, and an empty global range
 
 module _ (pool own : List ℕ) (c : ProjectionConfig) where
-  noop_is : (b : Bool) → c.segment_projection ≡ b → c.global_range ≡ global.Unset → c.segment_filter ≡ All → not b ≡ is_noop (config_in pool c own)
+  noop_is : (b : Bool) → c.segment_projection ≡ b → c.global_range ≡ None → c.segment_filter ≡ None → not b ≡ is_noop (config_in pool c own)
   unfolding config_in
   noop_is true e g f = rw (e, g, f)
   noop_is false e g f = rw (e, g, f)
 
-  pub noop_by : c.global_range ≡ global.Unset → c.segment_filter ≡ All → not c.segment_projection ≡ is_noop (config_in pool c own)
+  pub noop_by : c.global_range ≡ None → c.segment_filter ≡ None → not c.segment_projection ≡ is_noop (config_in pool c own)
   noop_by g f = noop_is c.segment_projection refl g f
 
-  pub noop_only : (flag : Bool) (mask : ℕ) → c.global_range ≡ global.Unset → c.segment_filter ≡ Only flag mask → false ≡ is_noop (config_in pool c own)
+  pub noop_only : (flag : Bool) (mask : ℕ) → c.global_range ≡ None → c.segment_filter ≡ Some (flag, mask) → false ≡ is_noop (config_in pool c own)
   unfolding config_in
   noop_only flag mask g f = rw (g, f)
 
-  pub noop_set : (r : Range) → c.global_range ≡ global.Set r → false ≡ is_noop (config_in pool c own)
+  pub noop_set : (r : Range) → c.global_range ≡ Some r → false ≡ is_noop (config_in pool c own)
   unfolding config_in
   noop_set r g = rw g
 
-  pub empty_set : (r : Range) (b : Bool) → c.global_range ≡ global.Set r → b ≡ empty_of (edge_of pool r.start) (edge_of pool r.end)
+  pub empty_set : (r : Range) (b : Bool) → c.global_range ≡ Some r → b ≡ empty_of (edge_of pool r.start) (edge_of pool r.end)
       → b ≡ global_empty (asked_in pool c.global_range)
   empty_set r b g e = rw g e
 
@@ -72,7 +70,7 @@ module _ (mask i : ℕ) where
 pub ones_fit : (mask : ℕ) → Fits w64 mask → Fits w64 (ones mask)
 ones_fit mask f = record { fits = lt_of_lt_of_le {m = 65} (omega (arith, ones-le 64 mask f.fits)) (omega arith) }
 
-module _ (f : Filter) (flag : Bool) (mask : ℕ) (e : f ≡ Only flag mask) where
+module _ (f : Option (Bool × ℕ)) (flag : Bool) (mask : ℕ) (e : f ≡ Some (flag, mask)) where
   pub pass_bit : (place : ℕ) (b : Bool) → (place ≡ 0 → ⊥) → b ≡ bit_of mask (place - 1) → b ≡ passes f place
   pass_bit zero b n h = absurd (n refl)
   pass_bit (suc i) b n h = rw e (h ∙ ap (bit_of mask) (omega arith))

@@ -1,4 +1,5 @@
 -- The table of own ranges: the row of a tree, and rows that are over their limit. Assumes nothing.
+use Rattle.std.specs.Prelude.{Option, Some}
 use Prim.Native.Nat.{ℕ, zero, suc, ◌+◌, ◌*◌, ◌/◌, ◌≤◌, ◌<◌}
 use mathlib.Core.Path.{◌≡◌, refl, sym, ap, ◌∙◌}
 use mathlib.Core.Bool.{Bool, true, false, ◌||◌}
@@ -23,8 +24,6 @@ use Rattle.segments.specs.Refuses.{range_over}
 use Rattle.project_ranges.specs.Config.{free, own_range}
 use Rattle.project_ranges.specs.Args.{own_row, global_over, own_row_over, some_over, counted, config_over}
 use Rattle.project_ranges.specs.Steps.{own_at}
-use Rattle.project_ranges.specs.declared.Global.{Global}
-use Rattle.project_ranges.specs.declared.Global.TheVariants as global
 use Rattle.project_ranges.specs.declared.ProjectionConfig.{ProjectionConfig}
 
 -- ---- the row of a tree
@@ -63,7 +62,7 @@ pub ruleset owns = (row_is, own_here, own_missing)
 
 -- ---- refusal 2
 
-pub global_by : (most n : ℕ) (g : Global) (r : Range) (b : Bool) → g ≡ global.Set r → b ≡ range_over most n r → b ≡ global_over most n g
+pub global_by : (most n : ℕ) (g : Option Range) (r : Range) (b : Bool) → g ≡ Some r → b ≡ range_over most n r → b ≡ global_over most n g
 global_by most n g r b e h = rw e h
 
 module _ (most n : ℕ) (own : List ℕ) (i : ℕ) where

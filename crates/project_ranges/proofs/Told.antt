@@ -1,4 +1,6 @@
 -- What refusals 8 and 9 come to: a range that is contained holds only keys of its prefix, and 9 is never told of the unsegmented tree.
+use Rattle.records.specs.declared.Refusal.TheVariants.{OwnEmpty, OwnOutside}
+use Rattle.std.specs.Prelude.{None, Option, Some}
 use Prim.Native.Nat.{ℕ}
 use mathlib.Core.Path.{◌≡◌, refl, sym, ap}
 use mathlib.Core.Bool.{true, false, true≢false}
@@ -16,9 +18,8 @@ use Rattle.project_views.specs.Reach.{top_edge}
 use Rattle.project_views.specs.Shown.{holds_none}
 use Rattle.project_ranges.specs.Own.{or_else, resolved, same_edge, is_contained, range_fault}
 use Rattle.project_ranges.specs.Steps.{end_stays}
-use Rattle.project_ranges.specs.declared.Fault.{Fault}
-use Rattle.project_ranges.specs.declared.Fault.TheVariants.{None, Empty, Outside}
 use Rattle.project_ranges.proofs.Contains.{says_equal, edge_self, start_from}
+use Rattle.records.specs.declared.Refusal.{Refusal}
 
 same_edge_lem : (s t : Edge) → same_edge s t ≡ true → s ≡ t
 same_edge_lem unbounded unbounded e = refl
@@ -63,28 +64,28 @@ whole_end_lem (excluded a) = edge_self (excluded a)
 pub whole_contains : (r : Edges) → is_contained [] (resolved [] r) ≡ true
 whole_contains r = rw (start_from [] (or_else r.start (included [])) (whole_start r.start)) (whole_end_lem r.end)
 
-pub whole_told : (place : ℕ) (r : Edges) → range_fault place [] r ≡ pick (holds_none (resolved [] r)) (Empty place) None
+pub whole_told : (place : ℕ) (r : Edges) → range_fault place [] r ≡ pick (holds_none (resolved [] r)) (Some (OwnEmpty place)) None
 unfolding range_fault
 whole_told place r = rw (whole_contains r)
 
 -- the cases of the segment `c`, by the keys a to e
 module _ (place : ℕ) where
-  abbrev of_c : Edge → Edge → Fault
+  abbrev of_c : Edge → Edge → Option Refusal
   of_c s e = range_fault place (0x63 ∷ []) (record { start = s; end = e })
 
-  pub up_to_b : of_c unbounded (included (0x62 ∷ [])) ≡ Empty place
+  pub up_to_b : of_c unbounded (included (0x62 ∷ [])) ≡ Some (OwnEmpty place)
   unfolding range_fault empty_of order_of after
   up_to_b = refl
 
-  pub a_to_b : of_c (included (0x61 ∷ [])) (included (0x62 ∷ [])) ≡ Outside place
+  pub a_to_b : of_c (included (0x61 ∷ [])) (included (0x62 ∷ [])) ≡ Some (OwnOutside place)
   unfolding range_fault empty_of order_of after
   a_to_b = refl
 
-  pub from_d : of_c (included (0x64 ∷ [])) unbounded ≡ Empty place
+  pub from_d : of_c (included (0x64 ∷ [])) unbounded ≡ Some (OwnEmpty place)
   unfolding range_fault empty_of order_of after
   from_d = refl
 
-  pub d_to_e : of_c (included (0x64 ∷ [])) (included (0x65 ∷ [])) ≡ Outside place
+  pub d_to_e : of_c (included (0x64 ∷ [])) (included (0x65 ∷ [])) ≡ Some (OwnOutside place)
   unfolding range_fault empty_of order_of after
   d_to_e = refl
 
@@ -92,15 +93,15 @@ module _ (place : ℕ) where
   unfolding range_fault empty_of order_of after
   below_d = refl
 
-  pub up_to_d : of_c unbounded (included (0x64 ∷ [])) ≡ Outside place
+  pub up_to_d : of_c unbounded (included (0x64 ∷ [])) ≡ Some (OwnOutside place)
   unfolding range_fault empty_of order_of after
   up_to_d = refl
 
-  pub b_to_a : of_c (included (0x62 ∷ [])) (included (0x61 ∷ [])) ≡ Empty place
+  pub b_to_a : of_c (included (0x62 ∷ [])) (included (0x61 ∷ [])) ≡ Some (OwnEmpty place)
   unfolding range_fault empty_of order_of after
   b_to_a = refl
 
   -- 9 is about bounds: each key above 61, up to 61 00 62, that is there is one of the prefix 61 00
-  pub above_61 : range_fault place (0x61 ∷ 0 ∷ []) (record { start = excluded (0x61 ∷ []); end = included (0x61 ∷ 0 ∷ 0x62 ∷ []) }) ≡ Outside place
+  pub above_61 : range_fault place (0x61 ∷ 0 ∷ []) (record { start = excluded (0x61 ∷ []); end = included (0x61 ∷ 0 ∷ 0x62 ∷ []) }) ≡ Some (OwnOutside place)
   unfolding range_fault empty_of order_of after
   above_61 = refl

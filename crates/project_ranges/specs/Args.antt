@@ -1,5 +1,5 @@
 -- The arguments as they are lent: bounds are places in the manifest's own pool, the own ranges six words a row, three a bound.
-use Rattle.std.specs.Prelude.{ℕ, suc, ◌+◌, ◌*◌, ◌/◌, Bool, true, false, ◌||◌, List, ltb, leb, length}
+use Rattle.std.specs.Prelude.{ℕ, suc, ◌+◌, ◌*◌, ◌/◌, Bool, true, false, ◌||◌, List, ltb, leb, length, None, Option, Some}
 use Rattle.keys.specs.Pick.{pick}
 use Rattle.keys.specs.Pool.{edges_of}
 use Rattle.keys.specs.declared.Range.{Range}
@@ -9,17 +9,15 @@ use Rattle.segments.specs.Refuses.{range_over, refuses5}
 use Rattle.project_views.specs.Reach.{reach_of}
 use Rattle.project_ranges.specs.Config.{Config, Asked, asked, Own, table}
 use Rattle.project_ranges.specs.Action.{Action, drop, project, pass}
-use Rattle.project_ranges.specs.declared.Global.{Global}
-use Rattle.project_ranges.specs.declared.Global.TheVariants as global
 use Rattle.project_ranges.specs.declared.ProjectionConfig.{ProjectionConfig}
 use Rattle.project_ranges.specs.declared.SegmentAction.{SegmentAction}
 use Rattle.project_ranges.specs.declared.SegmentAction.TheVariants.{Drop, Project, PassThrough}
 
 -- ---- what the arguments stand for
 
-abbrev pub asked_in : List ℕ → Global → Asked
-asked_in pool global.Unset = Asked.unset
-asked_in pool (global.Set r) = asked (edges_of pool r)
+abbrev pub asked_in : List ℕ → Option Range → Asked
+asked_in pool None = Asked.unset
+asked_in pool (Some r) = asked (edges_of pool r)
 
 -- a row of the table of own ranges
 abbrev pub own_row : List ℕ → ℕ → Range
@@ -41,9 +39,9 @@ action_in pool PassThrough = pass
 -- ---- refusals
 
 -- "2 | .. bound .. over its limit", in a pool of n bytes
-abbrev pub global_over : ℕ → ℕ → Global → Bool
-global_over most n global.Unset = false
-global_over most n (global.Set r) = range_over most n r
+abbrev pub global_over : ℕ → ℕ → Option Range → Bool
+global_over most n None = false
+global_over most n (Some r) = range_over most n r
 
 -- a bound's kind that stands for nothing is over its limit too
 abbrev pub own_row_over : ℕ → ℕ → List ℕ → ℕ → Bool

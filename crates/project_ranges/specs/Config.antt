@@ -1,10 +1,8 @@
 -- What a projection is asked for: "optional global range, optional filter, optional table of one range for the unsegmented tree and one
 -- per segment".
-use Rattle.std.specs.Prelude.{ℕ, zero, suc, ◌-◌, ◌/◌, ◌%◌, ◌^◌, Bool, true, false, ◌&&◌, List, eqb, leb, get_or}
+use Rattle.std.specs.Prelude.{ℕ, zero, suc, ◌-◌, ◌/◌, ◌%◌, ◌^◌, Bool, true, false, ◌&&◌, List, eqb, leb, get_or, None, Option, Some}
 use Rattle.std.specs.Int.Count.{ones, count_leading_zeros}
 use Rattle.keys.specs.Range.{unbounded, Edges}
-use Rattle.project_ranges.specs.declared.Filter.{Filter}
-use Rattle.project_ranges.specs.declared.Filter.TheVariants.{All, Only}
 
 pub data Asked : Type 0 where
   unset : Asked
@@ -16,7 +14,7 @@ pub data Own : Type 0 where
 
 pub record Config : Type 0 where
   pub global : Asked
-  pub filter : Filter
+  pub filter : Option (Bool × ℕ)
   pub own : Own
 
 abbrev pub free : Edges
@@ -35,9 +33,9 @@ is_noop c = is_unasked c.global && is_all c.filter && is_unowned c.own
     is_unasked unset = true
     is_unasked (asked r) = false
 
-    is_all : Filter → Bool
-    is_all All = true
-    is_all (Only flag mask) = false
+    is_all : Option (Bool × ℕ) → Bool
+    is_all None = true
+    is_all (Some (flag, mask)) = false
 
     is_unowned : Own → Bool
     is_unowned unset = true
@@ -47,22 +45,22 @@ is_noop c = is_unasked c.global && is_all c.filter && is_unowned c.own
 abbrev pub bit_of : ℕ → ℕ → Bool
 bit_of mask i = eqb (mask / 2 ^ i % 2) 1
 
-abbrev pub passes : Filter → ℕ → Bool
-passes All place = true
-passes (Only flag mask) zero = flag
-passes (Only flag mask) (suc i) = bit_of mask i
+abbrev pub passes : Option (Bool × ℕ) → ℕ → Bool
+passes None place = true
+passes (Some (flag, mask)) zero = flag
+passes (Some (flag, mask)) (suc i) = bit_of mask i
 
 -- "the answer says how many segments the mask names (0 with no filter)"
-abbrev pub names_count : Filter → ℕ
-names_count All = 0
-names_count (Only flag mask) = ones mask
+abbrev pub names_count : Option (Bool × ℕ) → ℕ
+names_count None = 0
+names_count (Some (flag, mask)) = ones mask
 
 -- "10 | mask bit set at or above the segment count"
-abbrev pub refuses10 : ℕ → Filter → Bool
-refuses10 n All = false
-refuses10 n (Only flag mask) = leb (2 ^ n) mask
+abbrev pub refuses10 : ℕ → Option (Bool × ℕ) → Bool
+refuses10 n None = false
+refuses10 n (Some (flag, mask)) = leb (2 ^ n) mask
 
 -- "that bit, the highest"
-abbrev pub place10 : Filter → ℕ
-place10 All = 0
-place10 (Only flag mask) = 63 - count_leading_zeros 64 mask
+abbrev pub place10 : Option (Bool × ℕ) → ℕ
+place10 None = 0
+place10 (Some (flag, mask)) = 63 - count_leading_zeros 64 mask

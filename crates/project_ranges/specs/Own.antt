@@ -1,5 +1,6 @@
 -- A tree's own range: its unbounded ends replaced, and when refusals 8 and 9 are given.
-use Rattle.std.specs.Prelude.{ℕ, suc, Bool, true, false, ◌&&◌, List, [], ◌∷◌}
+use Rattle.records.specs.declared.Refusal.TheVariants.{OwnEmpty, OwnOutside}
+use Rattle.std.specs.Prelude.{ℕ, suc, Bool, true, false, ◌&&◌, List, [], ◌∷◌, None, Option, Some}
 use Rattle.keys.specs.Pick.{pick}
 use Rattle.keys.specs.Prefix.{after}
 use Rattle.keys.specs.Range.{Edge, unbounded, included, excluded, Edges}
@@ -8,8 +9,7 @@ use Rattle.segments.specs.Lookup.{same_of}
 use Rattle.project_views.specs.Reach.{top_edge}
 use Rattle.project_views.specs.Shown.{holds_none}
 use Rattle.project_ranges.specs.Config.{Config, Own, unset, table, own_range, passes}
-use Rattle.project_ranges.specs.declared.Fault.{Fault}
-use Rattle.project_ranges.specs.declared.Fault.TheVariants.{None, Empty, Outside}
+use Rattle.records.specs.declared.Refusal.{Refusal}
 
 -- the range of a prefix: "included prefix; excluded successor: drop trailing FF bytes and add one to the last byte; unbounded for no byte left"
 abbrev pub prefix_range : List ℕ → Edges
@@ -44,28 +44,27 @@ abbrev pub is_contained : List ℕ → Edges → Bool
 is_contained p r = same_edges (meet_of r (prefix_range p)) r
 
 -- "8 / 9 | own range empty / not contained", of the tree at a place: "0 unsegmented, i+1 segment i"
-unfoldable pub range_fault : ℕ → List ℕ → Edges → Fault
-range_fault place p r = pick (holds_none (resolved p r)) (Empty place) (pick (is_contained p (resolved p r)) None (Outside place))
+unfoldable pub range_fault : ℕ → List ℕ → Edges → Option Refusal
+range_fault place p r = pick (holds_none (resolved p r)) (Some (OwnEmpty place)) (pick (is_contained p (resolved p r)) None (Some (OwnOutside place)))
 
-abbrev pub own_fault_at : Own → ℕ → List ℕ → Fault
+abbrev pub own_fault_at : Own → ℕ → List ℕ → Option Refusal
 own_fault_at unset place p = None
 own_fault_at (table rs) place p = range_fault place p (own_range rs place)
 
 -- "A filtered-out tree is not examined further."
-unfoldable pub tree_fault : Config → ℕ → List ℕ → Fault
+unfoldable pub tree_fault : Config → ℕ → List ℕ → Option Refusal
 tree_fault c place p = pick (passes c.filter place) (own_fault_at c.own place p) None
 
 -- "8 and 9: the lowest place."
-abbrev pub first_fault : Fault → Fault → Fault
+abbrev pub first_fault : Option Refusal → Option Refusal → Option Refusal
 first_fault None later = later
-first_fault (Empty place) later = Empty place
-first_fault (Outside place) later = Outside place
+first_fault (Some fault) later = Some fault
 
 -- of trees with these prefixes, at the places from `place` on
-unfoldable pub fault_from : Config → ℕ → List (List ℕ) → Fault
+unfoldable pub fault_from : Config → ℕ → List (List ℕ) → Option Refusal
 fault_from c place [] = None
 fault_from c place (p ∷ ps) = first_fault (tree_fault c place p) (fault_from c (suc place) ps)
 
 -- of the unsegmented tree, whose prefix is empty, and the segments
-abbrev pub own_fault : Config → List (List ℕ) → Fault
+abbrev pub own_fault : Config → List (List ℕ) → Option Refusal
 own_fault c ps = fault_from c 0 ([] ∷ ps)

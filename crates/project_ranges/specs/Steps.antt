@@ -1,5 +1,5 @@
 -- The steps that the code takes.
-use Rattle.std.specs.Prelude.{ℕ, ◌/◌, Bool, true, false, List, ltb, length}
+use Rattle.std.specs.Prelude.{ℕ, ◌/◌, Bool, true, false, List, ltb, length, Option, Some, None}
 use Rattle.keys.specs.Pick.{pick}
 use Rattle.keys.specs.Prefix.{Top, nowhere, at, after}
 use Rattle.keys.specs.Range.{Edge, included, Edges}
@@ -17,12 +17,9 @@ use Rattle.project_ranges.specs.Config.{Asked, asked}
 use Rattle.project_ranges.specs.Own.{or_else, same_edge}
 use Rattle.project_ranges.specs.Action.{Action, project, unless_empty}
 use Rattle.project_ranges.specs.Args.{own_row}
-use Rattle.project_ranges.specs.declared.Global.{Global}
-use Rattle.project_ranges.specs.declared.Global.TheVariants as global
 use Rattle.project_ranges.specs.declared.SegmentAction.{SegmentAction}
 use Rattle.project_ranges.specs.declared.SegmentAction.TheVariants.{Project, PassThrough}
-use Rattle.project_ranges.specs.declared.Fault.{Fault}
-use Rattle.project_ranges.specs.declared.Fault.TheVariants.{None, Empty, Outside}
+use Rattle.records.specs.declared.Refusal.{Refusal}
 
 -- ---- "its unbounded ends replaced by those of its prefix", at places of the pool
 
@@ -59,10 +56,9 @@ is_top k (at h) = same_of k h
 
 -- ---- "8 and 9: the lowest place"
 
-abbrev pub is_none : Fault → Bool
+abbrev pub is_none : Option Refusal → Bool
 is_none None = true
-is_none (Empty place) = false
-is_none (Outside place) = false
+is_none (Some fault) = false
 
 -- ---- what becomes of a tree that passes the filter: with its own range, its unbounded ends replaced, and with none
 
@@ -70,6 +66,6 @@ abbrev pub met_with : Edges → Asked → Action
 met_with r Asked.unset = project r
 met_with r (asked g) = unless_empty (meet_of r g)
 
-abbrev pub sole_row : Global → SegmentAction
-sole_row global.Unset = PassThrough
-sole_row (global.Set r) = Project (record { start = r.start; end = end_or r.end Unbounded })
+abbrev pub sole_row : Option Range → SegmentAction
+sole_row None = PassThrough
+sole_row (Some r) = Project (record { start = r.start; end = end_or r.end Unbounded })

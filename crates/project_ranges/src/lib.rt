@@ -22,34 +22,12 @@ use records::Place;
 use what_is_asked::passes;
 pub use what_is_asked::{global_empty, highest_bit, is_noop, mask_over, names_count};
 
-// The global range, where one is set.
-#[derive(Clone, Copy)]
-pub enum Global {
-    Unset,
-    Set(Range),
-}
-
-// The filter: a flag for the unsegmented tree, and a mask with a bit for each segment.
-#[derive(Clone, Copy)]
-pub enum Filter {
-    All,
-    Only(bool, u64),
-}
-
 // What is asked for. Whether there is a table of own ranges; the table is lent beside it.
 #[derive(Clone, Copy)]
 pub struct ProjectionConfig {
-    pub global_range: Global,
-    pub segment_filter: Filter,
+    pub global_range: Option<Range>,
+    pub segment_filter: Option<(bool, u64)>,
     pub segment_projection: bool,
-}
-
-// An own range that is empty, or not contained in its prefix's, and the place of its tree.
-#[derive(Clone, Copy)]
-pub enum Fault {
-    None,
-    Empty(usize),
-    Outside(usize),
 }
 
 // What becomes of a tree.
@@ -63,12 +41,12 @@ pub enum SegmentAction {
 // ---- what becomes of a tree
 
 // A tree with an own range, which is met with the global one.
-fn met_action(pool: &[u8], q: Reach, g: Global) -> SegmentAction
+fn met_action(pool: &[u8], q: Reach, g: Option<Range>) -> SegmentAction
     ensures { action_in pool.now result ≡ met_with (reach_of pool.now q) (asked_in pool.now g) }
 {
     match g {
-        Global::Unset => SegmentAction::Project(q),
-        Global::Set(a) => {
+        None => SegmentAction::Project(q),
+        Some(a) => {
             let m = meet_reach(pool, a, q);
             if holds_none(pool, m) {
                 return SegmentAction::Drop;
@@ -79,12 +57,12 @@ fn met_action(pool: &[u8], q: Reach, g: Global) -> SegmentAction
 }
 
 // A tree with none.
-fn sole_action(g: Global) -> SegmentAction
+fn sole_action(g: Option<Range>) -> SegmentAction
     ensures { result ≡ sole_row g }
 {
     match g {
-        Global::Unset => SegmentAction::PassThrough,
-        Global::Set(a) => {
+        None => SegmentAction::PassThrough,
+        Some(a) => {
             let start = a.start;
             let e = a.end;
             let end = end_or(e, Until::Unbounded);

@@ -1,40 +1,27 @@
 // Refusals 8 and 9.
 ghost use Rattle.std.specs.Prelude.{◌≡◌, ◌||◌, ◌+◌, ◌-◌, ◌/◌, ◌≤◌, ◌<◌, length};
 ghost use Rattle.keys.specs.Prefix.{under_of, after, grown_top};
-ghost use Rattle.keys.specs.declared.Successor.TheVariants.{Grown};
 ghost use Rattle.keys.specs.Pool.{edge_of, edges_of};
 ghost use Rattle.records.specs.Decode.{bytes_in};
 ghost use Rattle.lawful.specs.Steps.{prefix_at};
-ghost use Rattle.segments.specs.Lookup.{same_of};
 ghost use Rattle.segments.specs.Prefixes.{prefixes_in};
 ghost use Rattle.project_ranges.specs.Own.{resolved, is_contained, range_fault, tree_fault, fault_from, own_fault};
 ghost use Rattle.project_ranges.specs.Args.{config_in};
 ghost use Rattle.project_ranges.specs.Steps.{start_stays, end_stays, is_top, is_none};
 
+use crate::ProjectionConfig;
 use crate::ranges_owned::{canonicalize_segment_range, own_at};
 use crate::what_is_asked::passes;
-use crate::{Fault, ProjectionConfig};
-use keys::{
-    Bound, Order, Range, Successor, below_successor, compare, part, start_order, successor_of,
-};
+use keys::{Bound, Range, below_successor, compare, part, start_order, successor_of};
 use project_views::holds_none;
-use records::{Place, segment_at};
+use records::{Place, Refusal, segment_at};
+use std::cmp::Ordering;
 use tables::{Window, held};
-
-fn is_same(a: &[u8], b: &[u8]) -> bool
-    ensures { result ≡ same_of a.now b.now }
-{
-    match compare(a, b) {
-        Order::Less => false,
-        Order::Equal => true,
-        Order::Greater => false,
-    }
-}
 
 // Whether the key `k` is the first `n` bytes of `p`, the last of them one more.
 fn is_grown(k: &[u8], p: &[u8], n: usize) -> bool
     requires { (0 < n) × (n ≤ length p.now) }
-    ensures { result ≡ is_top k.now (grown_top p.now (Grown n)) }
+    ensures { result ≡ is_top k.now (grown_top p.now (Some n)) }
 {
     if k.len() != n {
         return false;
@@ -46,7 +33,7 @@ fn is_grown(k: &[u8], p: &[u8], n: usize) -> bool
     if 1 < k[i] - p[i] {
         return false;
     }
-    is_same(part(k, 0, i), part(p, 0, i))
+    compare(part(k, 0, i), part(p, 0, i)).is_eq()
 }
 
 // Whether the key `k` is the successor of `p`, which is not made.
@@ -54,8 +41,8 @@ fn is_successor(k: &[u8], p: &[u8]) -> bool
     ensures { result ≡ is_top k.now (after p.now) }
 {
     match successor_of(p) {
-        Successor::Nowhere => false,
-        Successor::Grown(n) => is_grown(k, p, n),
+        None => false,
+        Some(n) => is_grown(k, p, n),
     }
 }
 
@@ -74,9 +61,9 @@ fn start_stays(pool: &[u8], s: Bound, prefix: Place) -> bool
     ensures { result ≡ start_stays (bytes_in pool.now prefix) (edge_of pool.now s) }
 {
     match start_order(pool, s, pool, Bound::Included(prefix.at, prefix.len)) {
-        Order::Less => false,
-        Order::Equal => true,
-        Order::Greater => true,
+        Ordering::Less => false,
+        Ordering::Equal => true,
+        Ordering::Greater => true,
     }
 }
 
@@ -109,32 +96,38 @@ fn is_contained(pool: &[u8], prefix: Place, r: Range) -> bool
 }
 
 // What is at fault with the own range `r` of the tree at a place.
-fn range_fault(pool: &[u8], prefix: Place, place: usize, r: Range) -> Fault
+fn range_fault(pool: &[u8], prefix: Place, place: usize, r: Range) -> Option<Refusal>
     ensures { result ≡ range_fault place (bytes_in pool.now prefix) (edges_of pool.now r) }
 {
     let q = canonicalize_segment_range(prefix, r);
     if holds_none(pool, q) {
-        return Fault::Empty(place);
+        return Some(Refusal::OwnEmpty(place));
     }
     if is_contained(pool, prefix, r) {
-        return Fault::None;
+        return None;
     }
-    Fault::Outside(place)
+    Some(Refusal::OwnOutside(place))
 }
 
 // A tree that the filter drops is not examined further.
-fn tree_fault(pool: &[u8], prefix: Place, place: usize, c: ProjectionConfig, own: &[u64]) -> Fault
+fn tree_fault(
+    pool: &[u8],
+    prefix: Place,
+    place: usize,
+    c: ProjectionConfig,
+    own: &[u64],
+) -> Option<Refusal>
     ensures { result ≡ tree_fault (config_in pool.now c own.now) place (bytes_in pool.now prefix) }
 {
     let f = c.segment_filter;
     if !passes(f, place) {
-        return Fault::None;
+        return None;
     }
     if c.segment_projection {
         let r = own_at(own, place);
         return range_fault(pool, prefix, place, r);
     }
-    Fault::None
+    None
 }
 
 // The same of the segment of row `i`.
@@ -145,23 +138,13 @@ fn segment_fault(
     place: usize,
     c: ProjectionConfig,
     own: &[u64],
-) -> Fault
+) -> Option<Refusal>
     requires { i < length segments.now / 12 }
     ensures { result ≡ tree_fault (config_in pool.now c own.now) place (prefix_at segments.now pool.now i) }
 {
     let s = segment_at(segments, i);
     let prefix = s.prefix;
     tree_fault(pool, prefix, place, c, own)
-}
-
-fn is_none(x: Fault) -> bool
-    ensures { result ≡ is_none x }
-{
-    match x {
-        Fault::None => true,
-        Fault::Empty(_) => false,
-        Fault::Outside(_) => false,
-    }
 }
 
 // Of the segments alone, whose places begin with 1.
@@ -171,19 +154,16 @@ fn segments_fault(
     w: Window,
     c: ProjectionConfig,
     own: &[u64],
-) -> Fault
+) -> Option<Refusal>
     ensures { result ≡ fault_from (config_in pool.now c own.now) 1 (prefixes_in segments.now pool.now w) }
 {
     let n = held(w, segments.len() / 12);
-    let mut k = 0;
-    while k < n {
-        let x = segment_fault(segments, pool, w.first + k, k + 1, c, own);
-        if !is_none(x) {
-            return x;
+    for k in 0..n {
+        if let Some(fault) = segment_fault(segments, pool, w.first + k, k + 1, c, own) {
+            return Some(fault);
         }
-        k += 1;
     }
-    Fault::None
+    None
 }
 
 // The own range that is at fault, of the unsegmented tree and the segments of a window: the one at the lowest place.
@@ -194,12 +174,11 @@ pub fn own_fault(
     w: Window,
     c: ProjectionConfig,
     own: &[u64],
-) -> Fault
+) -> Option<Refusal>
     ensures { result ≡ own_fault (config_in pool.now c own.now) (prefixes_in segments.now pool.now w) }
 {
-    let x = tree_fault(pool, Place { at: 0, len: 0 }, 0, c, own);
-    if !is_none(x) {
-        return x;
+    if let Some(fault) = tree_fault(pool, Place { at: 0, len: 0 }, 0, c, own) {
+        return Some(fault);
     }
     segments_fault(segments, pool, w, c, own)
 }

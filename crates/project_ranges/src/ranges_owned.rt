@@ -3,7 +3,7 @@ ghost use Rattle.std.specs.Prelude.{◌≡◌, ◌+◌, ◌/◌, ◌≤◌, ◌<
 ghost use Rattle.project_ranges.specs.Args.{own_row, global_over, own_row_over, some_over, counted, config_over};
 ghost use Rattle.project_ranges.specs.Steps.{start_or, end_or, resolved_row, own_at};
 
-use crate::{Global, ProjectionConfig};
+use crate::ProjectionConfig;
 use keys::{Bound, Range};
 use project_views::{Reach, Until};
 use records::{Place, bound_at};
@@ -35,12 +35,12 @@ pub fn own_at(own: &[u64], place: usize) -> Range
 
 // ---- refusal 2
 
-fn global_over(most: usize, n: usize, g: Global) -> bool
+fn global_over(most: usize, n: usize, g: Option<Range>) -> bool
     ensures { result ≡ global_over most n g }
 {
     match g {
-        Global::Unset => false,
-        Global::Set(r) => range_over(most, n, r),
+        None => false,
+        Some(r) => range_over(most, n, r),
     }
 }
 
@@ -75,12 +75,10 @@ fn own_over(most: usize, n: usize, segments: usize, own: &[u64]) -> bool
     ensures { result ≡ some_over most n own.now (counted own.now segments) }
 {
     let rows = rows_counted(own, segments);
-    let mut k = 0;
-    while k < rows {
+    for k in 0..rows {
         if row_over(most, n, own, k) {
             return true;
         }
-        k += 1;
     }
     false
 }

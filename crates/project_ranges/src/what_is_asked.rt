@@ -4,7 +4,7 @@ ghost use Rattle.std.specs.Int.Count.{ones, count_leading_zeros};
 ghost use Rattle.project_ranges.specs.Config.{is_noop, bit_of, passes as passesOf, names_count, refuses10, place10};
 ghost use Rattle.project_ranges.specs.Args.{asked_in, config_in, global_empty};
 
-use crate::{Filter, Global, ProjectionConfig};
+use crate::ProjectionConfig;
 use keys::is_empty;
 
 // Whether nothing is asked for.
@@ -15,11 +15,11 @@ pub fn is_noop(c: ProjectionConfig, pool: &[u8], own: &[u64]) -> bool
     let g = c.global_range;
     let f = c.segment_filter;
     match g {
-        Global::Unset => match f {
-            Filter::All => !c.segment_projection,
-            Filter::Only(_, _) => false,
+        None => match f {
+            None => !c.segment_projection,
+            Some((_, _)) => false,
         },
-        Global::Set(_) => false,
+        Some(_) => false,
     }
 }
 
@@ -30,8 +30,8 @@ pub fn global_empty(pool: &[u8], c: ProjectionConfig) -> bool
 {
     let g = c.global_range;
     match g {
-        Global::Unset => false,
-        Global::Set(r) => is_empty(pool, r),
+        None => false,
+        Some(r) => is_empty(pool, r),
     }
 }
 
@@ -48,12 +48,12 @@ fn bit_of(mask: u64, i: usize) -> bool
 }
 
 // Whether the filter keeps the tree at a place.
-pub fn passes(f: Filter, place: usize) -> bool
+pub fn passes(f: Option<(bool, u64)>, place: usize) -> bool
     ensures { result ≡ passesOf f place }
 {
     match f {
-        Filter::All => true,
-        Filter::Only(flag, mask) => {
+        None => true,
+        Some((flag, mask)) => {
             if place == 0 {
                 return flag;
             }
@@ -73,12 +73,12 @@ fn mask_reaches(n: usize, mask: u64) -> bool
 
 // Whether the mask has a bit at or above the number of segments.
 // inner
-pub fn mask_over(n: usize, f: Filter) -> bool
+pub fn mask_over(n: usize, f: Option<(bool, u64)>) -> bool
     ensures { result ≡ refuses10 n f }
 {
     match f {
-        Filter::All => false,
-        Filter::Only(_, mask) => mask_reaches(n, mask),
+        None => false,
+        Some((_, mask)) => mask_reaches(n, mask),
     }
 }
 
@@ -94,12 +94,12 @@ fn highest_of(mask: u64) -> usize
 
 // The highest bit of the mask.
 // inner
-pub fn highest_bit(f: Filter) -> usize
+pub fn highest_bit(f: Option<(bool, u64)>) -> usize
     ensures { result ≡ place10 f }
 {
     match f {
-        Filter::All => 0,
-        Filter::Only(_, mask) => highest_of(mask),
+        None => 0,
+        Some((_, mask)) => highest_of(mask),
     }
 }
 
@@ -111,11 +111,11 @@ fn ones_of(mask: u64) -> usize
 
 // How many segments the mask names.
 // inner
-pub fn names_count(f: Filter) -> usize
+pub fn names_count(f: Option<(bool, u64)>) -> usize
     ensures { result ≡ names_count f }
 {
     match f {
-        Filter::All => 0,
-        Filter::Only(_, mask) => ones_of(mask),
+        None => 0,
+        Some((_, mask)) => ones_of(mask),
     }
 }

@@ -1,4 +1,5 @@
 -- What is left of a view, of a run and of a tree, added. Assumes nothing.
+use Rattle.std.specs.Prelude.{None, Option, Some}
 use Prim.Native.Nat.{ℕ, ◌+◌}
 use mathlib.Core.Path.{◌≡◌, refl, sym, ap, ◌∙◌}
 use mathlib.Core.Bool.{true}
@@ -20,16 +21,12 @@ use Rattle.records.specs.declared.ViewRow.{ViewRow}
 use Rattle.records.proofs.Sums.{fill_same, plus_empty}
 use Rattle.records.proofs.Columns.{view_fill_lem, views_fill}
 use Rattle.measure.specs.Walk.{add_of}
-use Rattle.measure.specs.declared.Measured.{Measured}
-use Rattle.measure.specs.declared.Measured.TheVariants.{Broken, Fills}
 use Rattle.lawful.specs.Steps.{last_bound, seen_row}
 use Rattle.lawful.proofs.Arms.{last_edge, seen_edges_lem}
 use Rattle.project_views.specs.Reach.{reach_of}
 use Rattle.project_views.specs.Shown.{with_visible, kept_run}
 use Rattle.project_views.specs.Steps.{left_in}
 use Rattle.project_views.specs.declared.Reach.{Reach}
-use Rattle.project_views.specs.declared.Kept.{Kept}
-use Rattle.project_views.specs.declared.Kept.TheVariants.{Gone, Left}
 use Rattle.project_views.proofs.Summed.{added_none, added_is, added_broken, added_on}
 
 -- the bytes of a bound's key
@@ -76,43 +73,43 @@ module _ (pool : List ℕ) (v : ViewRow) (end : Bound) (x : Range) (p : end ≡ 
       let d = ap length (joined_append (λ k. k) (last_keys (last_in pool v.last)) (seen_keys (seen_in pool v.visible))) ∙ length-append (run (last_keys (last_in pool v.last))) (run (seen_keys (seen_in pool v.visible))) in
       rw (view_fill_lem (view_in pool v)) (fill_same (omega arith, omega arith, omega arith, omega arith, omega arith, omega (arith, ap length a)))
 
-  module _ (most c : Fill) (a : Measured) (e : a ≡ add_of most c first) where
-    pub view_broken : a ≡ Broken → Broken ≡ add_of most c (view_fill (view_in pool v))
+  module _ (most c : Fill) (a : Option Fill) (e : a ≡ add_of most c first) where
+    pub view_broken : a ≡ None → None ≡ add_of most c (view_fill (view_in pool v))
     view_broken h = added_broken most c first (plus rest (views 1)) (view_fill (view_in pool v)) view_parts a e h
 
-    module _ (d : Fill) (h : a ≡ Fills d) (b : Measured) (f : b ≡ add_of most d rest) where
-      pub view_broken_late : b ≡ Broken → Broken ≡ add_of most c (view_fill (view_in pool v))
-      view_broken_late k = added_on most c first (plus rest (views 1)) (view_fill (view_in pool v)) view_parts a d Broken e h (added_broken most d rest (views 1) (plus rest (views 1)) refl b f k)
+    module _ (d : Fill) (h : a ≡ Some d) (b : Option Fill) (f : b ≡ add_of most d rest) where
+      pub view_broken_late : b ≡ None → None ≡ add_of most c (view_fill (view_in pool v))
+      view_broken_late k = added_on most c first (plus rest (views 1)) (view_fill (view_in pool v)) view_parts a d None e h (added_broken most d rest (views 1) (plus rest (views 1)) refl b f k)
 
-      pub view_added : (g : Fill) (r : Measured) → b ≡ Fills g → r ≡ add_of most g (views 1) → r ≡ add_of most c (view_fill (view_in pool v))
+      pub view_added : (g : Fill) (r : Option Fill) → b ≡ Some g → r ≡ add_of most g (views 1) → r ≡ add_of most c (view_fill (view_in pool v))
       view_added g r k m = added_on most c first (plus rest (views 1)) (view_fill (view_in pool v)) view_parts a d r e h (added_on most d rest (views 1) (plus rest (views 1)) refl b g r f k m)
 
 -- ---- what is left of a view
 
-module _ (most : Fill) (pool : List ℕ) (k : Kept) (c : Fill) where
-  pub add_gone : fits c most ≡ true → k ≡ Gone → Fills c ≡ add_of most c (sum view_fill (left_in pool k))
+module _ (most : Fill) (pool : List ℕ) (k : Option (ViewRow × Reach)) (c : Fill) where
+  pub add_gone : fits c most ≡ true → k ≡ None → Some c ≡ add_of most c (sum view_fill (left_in pool k))
   add_gone h t = rw t (added_none most c h)
 
-  pub add_one_left : (v : ViewRow) (x : Reach) (q : Measured) → k ≡ Left v x → q ≡ add_of most c (view_fill (with_visible (view_in pool v) (reach_of pool x))) → q ≡ add_of most c (sum view_fill (left_in pool k))
+  pub add_one_left : (v : ViewRow) (x : Reach) (q : Option Fill) → k ≡ Some (v, x) → q ≡ add_of most c (view_fill (with_visible (view_in pool v) (reach_of pool x))) → q ≡ add_of most c (sum view_fill (left_in pool k))
   add_one_left v x q t e = rw t (e ∙ ap (add_of most c) (sym (plus_empty (view_fill (with_visible (view_in pool v) (reach_of pool x))))))
 
 -- ---- what is left of a run, whose views vs are left
 
-module _ (most : Fill) (x : Run) (c : Fill) (s : Measured) where
-  pub run_broken : (vs : List View) → s ≡ add_of most c (sum view_fill vs) → s ≡ Broken → Broken ≡ add_of most c (sum run_fill (kept_run x vs))
+module _ (most : Fill) (x : Run) (c : Fill) (s : Option Fill) where
+  pub run_broken : (vs : List View) → s ≡ add_of most c (sum view_fill vs) → s ≡ None → None ≡ add_of most c (sum run_fill (kept_run x vs))
   unfolding run_fill
   run_broken [] e h = sym (sym e ∙ h)
   run_broken (v ∷ vs) e h = added_broken most c (sum view_fill (v ∷ vs)) (runs 1) (sum run_fill (kept_run x (v ∷ vs))) (fill_same (omega arith)) s e h
 
   module _ (d : Fill) where
-    pub run_gone : (vs : List View) → s ≡ add_of most c (sum view_fill vs) → s ≡ Fills d → d.views ≡ c.views → Fills d ≡ add_of most c (sum run_fill (kept_run x vs))
+    pub run_gone : (vs : List View) → s ≡ add_of most c (sum view_fill vs) → s ≡ Some d → d.views ≡ c.views → Some d ≡ add_of most c (sum run_fill (kept_run x vs))
     run_gone [] e h n = sym h ∙ e
     run_gone (v ∷ vs) e h n =
         let i = added_is most c (sum view_fill (v ∷ vs)) d (sym e ∙ h) in
         let m = ap (λ (f : Fill). f.views) (i.0 ∙ ap (plus c) (views_fill (v ∷ vs))) in
         absurd (omega arith)
 
-    pub run_left : (vs : List View) (r : Measured) → s ≡ add_of most c (sum view_fill vs) → s ≡ Fills d → (d.views ≡ c.views → ⊥) → r ≡ add_of most d (runs 1) → r ≡ add_of most c (sum run_fill (kept_run x vs))
+    pub run_left : (vs : List View) (r : Option Fill) → s ≡ add_of most c (sum view_fill vs) → s ≡ Some d → (d.views ≡ c.views → ⊥) → r ≡ add_of most d (runs 1) → r ≡ add_of most c (sum run_fill (kept_run x vs))
     unfolding run_fill
     run_left [] r e h n k = absurd (n (ap (λ (f : Fill). f.views) (added_is most c (sum view_fill []) d (sym e ∙ h)).0 ∙ omega arith))
     run_left (v ∷ vs) r e h n k = added_on most c (sum view_fill (v ∷ vs)) (runs 1) (sum run_fill (kept_run x (v ∷ vs))) (fill_same (omega arith)) s d r e h k

@@ -10,8 +10,8 @@ use Rattle.keys.specs.Prefix.{Top, nowhere, at, under_of, after}
 use Rattle.keys.specs.Range.{Edge, unbounded, included, excluded, Edges, low, top, empty_of}
 use Rattle.keys.specs.Meet.{or_else, start_order, end_order, later, earlier, meet_of}
 use Rattle.keys.specs.Pool.{part_of, edge_of, edges_of, meet_in}
-use Rattle.keys.specs.declared.Order.{Order}
-use Rattle.keys.specs.declared.Order.TheVariants.{Less, Equal, Greater}
+use Rattle.std.specs.declared.cmp.Ordering.{Ordering}
+use Rattle.std.specs.declared.cmp.Ordering.TheVariants.{Less, Equal, Greater}
 use Rattle.keys.specs.declared.Bound.{Bound}
 use Rattle.keys.specs.declared.Bound.TheVariants as bound
 use Rattle.keys.specs.declared.Range.{Range}
@@ -69,7 +69,7 @@ stays_included : (k : List ℕ) (t : Top) → under_of k t ≡ true → included
 stays_included k nowhere h = refl
 stays_included k (at b) h = rw (order_turn k b) (go (order_of k b) h)
   where
-    go : (o : Order) → is_less o ≡ true → included k ≡ pick (is_less (or_else (turn o) Less)) (excluded b) (included k)
+    go : (o : Ordering) → is_less o ≡ true → included k ≡ pick (is_less (or_else (turn o) Less)) (excluded b) (included k)
     go Less h = refl
     go Equal h = never (sym h)
     go Greater h = never (sym h)
@@ -78,7 +78,7 @@ stays_excluded : (k : List ℕ) (t : Top) → under_of k t ≡ true → excluded
 stays_excluded k nowhere h = refl
 stays_excluded k (at b) h = rw (order_turn k b) (go (order_of k b) h)
   where
-    go : (o : Order) → is_less o ≡ true → excluded k ≡ pick (is_less (turn o)) (excluded b) (excluded k)
+    go : (o : Ordering) → is_less o ≡ true → excluded k ≡ pick (is_less (turn o)) (excluded b) (excluded k)
     go Less h = refl
     go Equal h = never (sym h)
     go Greater h = never (sym h)
@@ -87,7 +87,7 @@ leaves_included : (k : List ℕ) (t : Top) → under_of k t ≡ false → top_ed
 leaves_included k nowhere h = never h
 leaves_included k (at b) h = rw (order_turn k b) (go (order_of k b) h)
   where
-    go : (o : Order) → is_less o ≡ false → excluded b ≡ pick (is_less (or_else (turn o) Less)) (excluded b) (included k)
+    go : (o : Ordering) → is_less o ≡ false → excluded b ≡ pick (is_less (or_else (turn o) Less)) (excluded b) (included k)
     go Less h = never h
     go Equal h = refl
     go Greater h = refl
@@ -96,7 +96,7 @@ leaves_excluded : (k : List ℕ) (t : Top) → under_of k t ≡ false → top_ed
 leaves_excluded k nowhere h = never h
 leaves_excluded k (at b) h = rw (order_turn k b) (go (order_of k b) refl h)
   where
-    go : (o : Order) → order_of k b ≡ o → is_less o ≡ false → excluded b ≡ pick (is_less (turn o)) (excluded b) (excluded k)
+    go : (o : Ordering) → order_of k b ≡ o → is_less o ≡ false → excluded b ≡ pick (is_less (turn o)) (excluded b) (excluded k)
     go Less e h = never h
     go Equal e h = ap excluded (sym (of_same (stands k b Equal e)))
     go Greater e h = refl
@@ -169,7 +169,7 @@ reach_met pool a m r e w p q h =
 later_comm : (s t : Edge) → later s t ≡ later t s
 later_comm s t = rw (start_turn s t) (go (start_order s t) refl)
   where
-    go : (o : Order) → start_order s t ≡ o → pick (is_less o) t s ≡ pick (is_less (turn o)) s t
+    go : (o : Ordering) → start_order s t ≡ o → pick (is_less o) t s ≡ pick (is_less (turn o)) s t
     go Less e = refl
     go Equal e = start_same s t e
     go Greater e = refl
@@ -177,7 +177,7 @@ later_comm s t = rw (start_turn s t) (go (start_order s t) refl)
 earlier_comm : (s t : Edge) → earlier s t ≡ earlier t s
 earlier_comm s t = rw (end_turn t s) (go (end_order t s) refl)
   where
-    go : (o : Order) → end_order t s ≡ o → pick (is_less o) t s ≡ pick (is_less (turn o)) s t
+    go : (o : Ordering) → end_order t s ≡ o → pick (is_less o) t s ≡ pick (is_less (turn o)) s t
     go Less e = refl
     go Equal e = sym (end_same t s e)
     go Greater e = refl

@@ -1,4 +1,5 @@
 -- The SST ids of the views that are left, listed. Assumes nothing.
+use Rattle.std.specs.Prelude.{None, Option, Some}
 use Prim.Native.Nat.{ℕ, zero, suc, ◌+◌, ◌*◌, ◌/◌, ◌≤◌, ◌<◌}
 use mathlib.Core.Path.{◌≡◌, refl, sym, ap, ◌∙◌}
 use mathlib.Core.Bool.{Bool}
@@ -29,8 +30,6 @@ use Rattle.measure.specs.Within.{run_views, tree_views, ids_used}
 use Rattle.project_views.specs.Shown.{kept_run, run_shown, runs_shown}
 use Rattle.project_views.specs.Steps.{left_in, ids_left, views_shown}
 use Rattle.project_views.specs.declared.Reach.{Reach}
-use Rattle.project_views.specs.declared.Kept.{Kept}
-use Rattle.project_views.specs.declared.Kept.TheVariants.{Gone, Left}
 use Rattle.project_views.proofs.Many.{all, sum_many, joined_many}
 use Rattle.project_views.proofs.Shows.{piece_in, shown_all}
 
@@ -55,21 +54,21 @@ used_all f (suc n) =
 
 -- ---- one view
 
-pub left_used : (pool : List ℕ) (k : Kept) → ids_used (left_in pool k) ≡ ids_left k
+pub left_used : (pool : List ℕ) (k : Option (ViewRow × Reach)) → ids_used (left_in pool k) ≡ ids_left k
 unfolding view_in
-left_used pool Gone = refl
-left_used pool (Left v seen) = refl
+left_used pool None = refl
+left_used pool (Some (v, seen)) = refl
 
 -- some ids laid from c on
 abbrev pub LaidIds : Fill → Fill → List ℕ → List ℕ → List SstId → Type 0
 LaidIds c q d d' xs = (q ≡ plus c (id_cells (length xs))) × (d' ≡ write d (c.ids * 2) (ids_laid xs))
 
-module _ (k : Kept) (c : Fill) (d : List ℕ) where
-  pub id_none : k ≡ Gone → LaidIds c c d d (ids_left k)
+module _ (k : Option (ViewRow × Reach)) (c : Fill) (d : List ℕ) where
+  pub id_none : k ≡ None → LaidIds c c d d (ids_left k)
   unfolding ids_laid
   id_none t = rw t (sym (plus_empty c), sym (write_none d (c.ids * 2)))
 
-  module _ (v : ViewRow) (x : Reach) (t : k ≡ Left v x) where
+  module _ (v : ViewRow) (x : Reach) (t : k ≡ Some (v, x)) where
     pub id_room_lem : (n : ℕ) → (c.ids + length (ids_left k)) * 2 ≤ n → (c.ids + 1) * 2 ≤ n
     id_room_lem n h = rw t at h
 
@@ -78,7 +77,7 @@ module _ (k : Kept) (c : Fill) (d : List ℕ) where
     id_one q d' p w = rw t (p, w ∙ ap (write d (c.ids * 2)) (sym (append-nil (id_words v.sst))))
 
 -- what one view leaves, from what its answer says
-pub piece_used : (pool : List ℕ) (k : Kept) (vs : List View) → left_in pool k ≡ vs → ids_left k ≡ ids_used vs
+pub piece_used : (pool : List ℕ) (k : Option (ViewRow × Reach)) (vs : List View) → left_in pool k ≡ vs → ids_left k ≡ ids_used vs
 piece_used pool k vs e = sym (left_used pool k) ∙ ap ids_used e
 
 -- ---- a loop that lists the ids of n pieces

@@ -1,4 +1,5 @@
 -- A view that is left, laid by its flat row. Assumes nothing.
+use Rattle.std.specs.Prelude.{None, Option, Some}
 use Prim.Native.Nat.{ℕ, ◌+◌, ◌-◌, ◌*◌, ◌≤◌, ◌<◌}
 use mathlib.Core.Path.{◌≡◌, sym, ap, ◌∙◌}
 use mathlib.Core.Bool.{true, false}
@@ -8,8 +9,6 @@ use Rattle.keys.specs.Prefix.{successor_of}
 use Rattle.keys.specs.Range.{Edge}
 use Rattle.keys.specs.Pool.{part_of, edge_of}
 use Rattle.keys.specs.declared.Bound.TheVariants as bound
-use Rattle.keys.specs.declared.Successor as prefix
-use Rattle.keys.specs.declared.Successor.TheVariants.{Nowhere, Grown}
 use Rattle.tables.specs.Layout.{write}
 use Rattle.tables.proofs.Writes.{write_length}
 use Rattle.records.specs.Model.{View}
@@ -42,11 +41,11 @@ module _ (pool : List ℕ) (u : Until) where
     pub flat_excluded : u ≡ Excluded from len → record { end = bound.Excluded from len; grown = false } ≡ flat_of pool u
     flat_excluded t = rw t
 
-    module _ (p : List ℕ) (s : prefix.Successor) (t : u ≡ Successor from len) (e : p ≡ part_of pool from len) (h : s ≡ successor_of p) where
-      pub flat_nowhere : s ≡ Nowhere → record { end = bound.Unbounded; grown = false } ≡ flat_of pool u
+    module _ (p : List ℕ) (s : Option ℕ) (t : u ≡ Successor from len) (e : p ≡ part_of pool from len) (h : s ≡ successor_of p) where
+      pub flat_nowhere : s ≡ None → record { end = bound.Unbounded; grown = false } ≡ flat_of pool u
       flat_nowhere q = rw (t, ← e, sym h ∙ q)
 
-      pub flat_grown : (n : ℕ) → s ≡ Grown n → record { end = bound.Excluded from n; grown = true } ≡ flat_of pool u
+      pub flat_grown : (n : ℕ) → s ≡ Some n → record { end = bound.Excluded from n; grown = true } ≡ flat_of pool u
       flat_grown n q = rw (t, ← e, sym h ∙ q)
 
 pub ruleset flats = (flat_free, flat_included, flat_excluded, flat_nowhere, flat_grown)

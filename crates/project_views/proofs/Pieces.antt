@@ -1,4 +1,5 @@
 -- What is left of one view, by the tests that the code makes. Assumes nothing.
+use Rattle.std.specs.Prelude.{None, Some}
 use Prim.Native.Nat.{ℕ, ◌+◌, ◌≤◌, ◌<◌}
 use mathlib.Core.Path.{◌≡◌, refl, sym, ap, ◌∙◌}
 use mathlib.Core.Bool.{Bool, true, false, not, ◌&&◌}
@@ -22,7 +23,6 @@ use Rattle.project_views.specs.Reach.{reach_of}
 use Rattle.project_views.specs.Shown.{holds_none, goes, with_visible}
 use Rattle.project_views.specs.Steps.{shown_to, kept_to, left_in, end_row, end_of, piece_of}
 use Rattle.project_views.specs.declared.Reach.{Reach}
-use Rattle.project_views.specs.declared.Kept.TheVariants.{Gone, Left}
 
 -- ---- the span, and the view
 
@@ -58,10 +58,10 @@ module _ (pool : List ℕ) (v : ViewRow) where
       unfolding kept_to
       kept_is = ap (λ (z : Edges). pick (goes z (view_in pool v)) [] (with_visible (view_in pool v) z ∷ [])) shown_is
 
-      pub kept_gone : g ≡ true → left_in pool Gone ≡ kept_to (reach_of pool r) (view_in pool v) (edge_of pool end)
+      pub kept_gone : g ≡ true → left_in pool None ≡ kept_to (reach_of pool r) (view_in pool v) (edge_of pool end)
       kept_gone h = rw (sym e ∙ h) at kept_is
 
-      pub kept_left : g ≡ false → left_in pool (Left v seen) ≡ kept_to (reach_of pool r) (view_in pool v) (edge_of pool end)
+      pub kept_left : g ≡ false → left_in pool (Some (v, seen)) ≡ kept_to (reach_of pool r) (view_in pool v) (edge_of pool end)
       kept_left h = rw (sym e ∙ h) at kept_is
 
 pub ruleset views_left = (span_is, goes_empty, goes_hidden, kept_gone, kept_left)

@@ -1,4 +1,5 @@
 -- What is left of one view and of a window's views, laid. Assumes nothing.
+use Rattle.std.specs.Prelude.{None, Option, Some}
 use Prim.Native.Nat.{ℕ, ◌+◌, ◌*◌, ◌/◌, ◌≤◌}
 use mathlib.Core.Path.{◌≡◌, sym, ap, ◌∙◌}
 use mathlib.Core.Bool.{Bool}
@@ -27,8 +28,6 @@ use Rattle.project_views.specs.Reach.{reach_of}
 use Rattle.project_views.specs.Shown.{with_visible}
 use Rattle.project_views.specs.Steps.{left_in, piece_of, views_shown}
 use Rattle.project_views.specs.declared.Reach.{Reach}
-use Rattle.project_views.specs.declared.Kept.{Kept}
-use Rattle.project_views.specs.declared.Kept.TheVariants.{Gone, Left}
 use Rattle.project_views.proofs.Many.{all, many, sum_many, joined_many, column_many, pieces}
 
 -- ---- some views laid from c on: the cursor past them, their rows and their bytes
@@ -41,12 +40,12 @@ RoomViews c m n vs = ((c.views + (sum view_fill vs).views) * 16 ≤ m) × (c.byt
 
 -- ---- what is left of one view
 
-module _ (pool : List ℕ) (k : Kept) (c : Fill) where
-  pub kept_none : (d e : List ℕ) → k ≡ Gone → LaidViews c c d d e e (left_in pool k)
+module _ (pool : List ℕ) (k : Option (ViewRow × Reach)) (c : Fill) where
+  pub kept_none : (d e : List ℕ) → k ≡ None → LaidViews c c d d e e (left_in pool k)
   unfolding views_laid
   kept_none d e t = rw t (sym (plus_empty c), (sym (write_none d (c.views * 16)), sym (write_none e c.bytes)))
 
-  module _ (v : ViewRow) (seen : Reach) (t : k ≡ Left v seen) where
+  module _ (v : ViewRow) (seen : Reach) (t : k ≡ Some (v, seen)) where
     abbrev left : View
     left = with_visible (view_in pool v) (reach_of pool seen)
 

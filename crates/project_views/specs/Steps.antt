@@ -1,5 +1,5 @@
 -- The steps that the code takes, row by row.
-use Rattle.std.specs.Prelude.{ℕ, ◌+◌, Bool, true, false, not, ◌&&◌, List, [], ◌∷◌, ltb}
+use Rattle.std.specs.Prelude.{ℕ, ◌+◌, Bool, true, false, not, ◌&&◌, List, [], ◌∷◌, ltb, None, Option, Some}
 use Rattle.keys.specs.Pick.{pick}
 use Rattle.keys.specs.Prefix.{after, successor_of}
 use Rattle.keys.specs.Range.{Edge, included, excluded, Edges}
@@ -7,21 +7,17 @@ use Rattle.keys.specs.Meet.{earlier, meet_of}
 use Rattle.keys.specs.Pool.{part_of}
 use Rattle.keys.specs.declared.Bound.{Bound}
 use Rattle.keys.specs.declared.Bound.TheVariants as bound
-use Rattle.keys.specs.declared.Successor as prefix
-use Rattle.keys.specs.declared.Successor.TheVariants.{Nowhere, Grown}
 use Rattle.ids.specs.declared.SstId.{SstId}
 use Rattle.records.specs.Model.{View, Run, last_end, seen_edges}
 use Rattle.records.specs.Decode.{view_in}
 use Rattle.records.specs.declared.ViewRow.{ViewRow}
-use Rattle.records.specs.declared.Visible.TheVariants.{Only}
 use Rattle.lawful.specs.Steps.{last_bound}
 use Rattle.project_views.specs.Reach.{top_edge, reach_of}
 use Rattle.project_views.specs.Shown.{goes, with_visible, run_shown, l0_shown, kept_run}
 use Rattle.project_views.specs.declared.Until.{Until}
 use Rattle.project_views.specs.declared.Until.TheVariants.{Unbounded, Included, Excluded, Successor}
 use Rattle.project_views.specs.declared.Flat.{Flat}
-use Rattle.project_views.specs.declared.Kept.{Kept}
-use Rattle.project_views.specs.declared.Kept.TheVariants.{Gone, Left}
+use Rattle.project_views.specs.declared.Reach.{Reach}
 
 -- ---- ends
 
@@ -46,9 +42,9 @@ cut_by pool e (Excluded from len) = e
 cut_by pool e (Successor from len) = earlier e (top_edge (after (part_of pool from len)))
 
 -- An end as bytes of the pool: of a successor the bytes that are left of its prefix, to the last of which one is to be added.
-abbrev pub flat_by : ℕ → prefix.Successor → Flat
-flat_by from Nowhere = record { end = bound.Unbounded; grown = false }
-flat_by from (Grown n) = record { end = bound.Excluded from n; grown = true }
+abbrev pub flat_by : ℕ → Option ℕ → Flat
+flat_by from None = record { end = bound.Unbounded; grown = false }
+flat_by from (Some n) = record { end = bound.Excluded from n; grown = true }
 
 abbrev pub flat_of : List ℕ → Until → Flat
 flat_of pool Unbounded = record { end = bound.Unbounded; grown = false }
@@ -60,7 +56,7 @@ flat_of pool (Successor from len) = flat_by from (successor_of (part_of pool fro
 
 -- its row with another visible range
 abbrev pub row_seen : ViewRow → Bound → Bound → ViewRow
-row_seen v s e = record { id = v.id; sst = v.sst; first = v.first; last = v.last; visible = Only (record { start = s; end = e }) }
+row_seen v s e = record { id = v.id; sst = v.sst; first = v.first; last = v.last; visible = Some (record { start = s; end = e }) }
 
 -- the range that is seen of a view whose span ends at e
 abbrev pub shown_to : Edges → View → Edge → Edges
@@ -71,14 +67,14 @@ unfoldable pub kept_to : Edges → View → Edge → List View
 kept_to r v e = pick (goes (shown_to r v e) v) [] (with_visible v (shown_to r v e) ∷ [])
 
 -- what the code's answer says is left
-abbrev pub left_in : List ℕ → Kept → List View
-left_in pool Gone = []
-left_in pool (Left v seen) = with_visible (view_in pool v) (reach_of pool seen) ∷ []
+abbrev pub left_in : List ℕ → Option (ViewRow × Reach) → List View
+left_in pool None = []
+left_in pool (Some (v, seen)) = with_visible (view_in pool v) (reach_of pool seen) ∷ []
 
 -- the id of the view that it says is left
-abbrev pub ids_left : Kept → List SstId
-ids_left Gone = []
-ids_left (Left v seen) = v.sst ∷ []
+abbrev pub ids_left : Option (ViewRow × Reach) → List SstId
+ids_left None = []
+ids_left (Some (v, seen)) = v.sst ∷ []
 
 -- ---- view k of n that follow each other; those of L0 overlap, and none ends another's span
 

@@ -6,7 +6,7 @@ mod views_ids;
 mod views_laid;
 mod views_measured;
 
-use keys::{Bound, Successor};
+use keys::Bound;
 use records::ViewRow;
 pub use view_ranges::{holds_none, meet_reach};
 pub use views_ids::ids_shown;
@@ -27,13 +27,6 @@ pub enum Until {
 pub struct Reach {
     pub start: Bound,
     pub end: Until,
-}
-
-// What is left of a view: nothing, or the view with its new visible range.
-#[derive(Clone, Copy)]
-pub enum Kept {
-    Gone,
-    Left(ViewRow, Reach),
 }
 
 // An end as bytes of the pool; where it is a successor, one is to be added to the last of them.

@@ -12,7 +12,7 @@ ghost use Rattle.project_views.specs.Reach.{top_edge, until_of, reach_of};
 ghost use Rattle.project_views.specs.Shown.{holds_none, goes as goesOf};
 ghost use Rattle.project_views.specs.Steps.{as_until, plain_end, cut_by, kept_to, left_in, end_row, piece_of};
 
-use crate::{Kept, Reach, Until};
+use crate::{Reach, Until};
 use keys::{Bound, Range, below_successor, is_empty_between, meet, part};
 use lawful::{last_bound, seen_range};
 use records::{ViewRow, view_at};
@@ -79,14 +79,21 @@ fn cut(pool: &[u8], e: Bound, u: Until) -> Until
 pub fn meet_reach(pool: &[u8], a: Range, r: Reach) -> Reach
     ensures { reach_of pool.now result ≡ meet_of (edges_of pool.now a) (reach_of pool.now r) }
 {
-    let s = r.start;
     let u = r.end;
     let e = plain_end(u);
-    let m = meet(pool, a, Range { start: s, end: e });
-    let start = m.start;
-    let before = m.end;
-    let end = cut(pool, before, u);
-    Reach { start, end }
+    let m = meet(
+        pool,
+        a,
+        Range {
+            start: r.start,
+            end: e,
+        },
+    );
+    let end = cut(pool, m.end, u);
+    Reach {
+        start: m.start,
+        end,
+    }
 }
 
 // Whether no key is in it.
@@ -95,8 +102,7 @@ pub fn holds_none(pool: &[u8], r: Reach) -> bool
     ensures { result ≡ holds_none (reach_of pool.now r) }
 {
     let s = r.start;
-    let u = r.end;
-    match u {
+    match r.end {
         Until::Unbounded => false,
         Until::Included(at, len) => is_empty_between(pool, s, pool, Bound::Included(at, len)),
         Until::Excluded(at, len) => is_empty_between(pool, s, pool, Bound::Excluded(at, len)),
@@ -110,8 +116,7 @@ pub fn holds_none(pool: &[u8], r: Reach) -> bool
 fn span_to(pool: &[u8], v: ViewRow, end: Bound) -> Range
     ensures { edges_of pool.now result ≡ meet_of (record { start = included (view_in pool.now v).first; end = edge_of pool.now end }) (seen_edges (view_in pool.now v).visible) }
 {
-    let x = v.visible;
-    let seen = seen_range(x);
+    let seen = seen_range(v.visible);
     let start = Bound::Included(v.first.at, v.first.len);
     meet(pool, Range { start, end }, seen)
 }
@@ -123,23 +128,22 @@ fn view_goes(pool: &[u8], v: ViewRow, seen: Reach) -> bool
     if holds_none(pool, seen) {
         return true;
     }
-    let last = v.last;
-    let end = last_bound(last);
+    let end = last_bound(v.last);
     let start = Bound::Included(v.first.at, v.first.len);
     let both = meet_reach(pool, Range { start, end }, seen);
     holds_none(pool, both)
 }
 
 // What the range `r` leaves of a view whose span ends at `end`.
-fn kept_to(pool: &[u8], v: ViewRow, end: Bound, r: Reach) -> Kept
+fn kept_to(pool: &[u8], v: ViewRow, end: Bound, r: Reach) -> Option<(ViewRow, Reach)>
     ensures { left_in pool.now result ≡ kept_to (reach_of pool.now r) (view_in pool.now v) (edge_of pool.now end) }
 {
     let span = span_to(pool, v, end);
     let seen = meet_reach(pool, span, r);
     if view_goes(pool, v, seen) {
-        return Kept::Gone;
+        return None;
     }
-    Kept::Left(v, seen)
+    Some((v, seen))
 }
 
 // ---- view `k` of the `n` from `first` on
@@ -150,8 +154,7 @@ fn last_at(views: &[u64], i: usize) -> Bound
     ensures { result ≡ last_bound (view_at views.now i).last }
 {
     let v = view_at(views, i);
-    let last = v.last;
-    last_bound(last)
+    last_bound(v.last)
 }
 
 // Where its span ends: in a run at the first key of the next view, if there is one, else where its physical range does.
@@ -178,7 +181,7 @@ pub fn kept_at(
     views_overlap: bool,
     pool: &[u8],
     r: Reach,
-) -> Kept
+) -> Option<(ViewRow, Reach)>
     requires { (first + n ≤ length views.now / 16) × (k < n) }
     ensures { left_in pool.now result ≡ piece_of (reach_of pool.now r) views_overlap (λ i. view_in pool.now (view_at views.now (first + i))) n k }
 {

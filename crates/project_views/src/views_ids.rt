@@ -10,21 +10,21 @@ ghost use Rattle.project_views.specs.Reach.{reach_of};
 ghost use Rattle.project_views.specs.Shown.{run_shown, runs_shown, tree_shown};
 ghost use Rattle.project_views.specs.Steps.{ids_left, piece_of, views_shown};
 
+use crate::Reach;
 use crate::view_ranges::kept_at;
-use crate::{Kept, Reach};
 use emit::put_id;
-use records::{Fill, TreeRow, run_at};
+use records::{Fill, TreeRow, ViewRow, run_at};
 use tables::{Window, held};
 
 // Appends that of a view.
-fn put_kept_id(k: Kept, out_ids: &mut [u64], c: Fill) -> Fill
+fn put_kept_id(k: Option<(ViewRow, Reach)>, out_ids: &mut [u64], c: Fill) -> Fill
     requires { (c.ids + length (ids_left k)) * 2 ≤ length out_ids.old }
     ensures value { result ≡ plus c (ids (length (ids_left k))) }
     ensures out_ids_after { out_ids.new ≡ write out_ids.old (c.ids * 2) (ids_laid (ids_left k)) }
 {
     match k {
-        Kept::Gone => c,
-        Kept::Left(v, _) => {
+        None => c,
+        Some((v, _)) => {
             let sst = v.sst;
             put_id(sst, out_ids, c)
         }
@@ -67,12 +67,9 @@ fn put_views_ids(
     ensures out_ids_after { out_ids.new ≡ write out_ids.old (c.ids * 2) (ids_laid (ids_used (views_shown views_overlap (reach_of pool.now r) (views_in views.now pool.now w)))) }
 {
     let n = held(w, views.len() / 16);
-    let first = w.first;
     let mut to = c;
-    let mut k = 0;
-    while k < n {
-        to = put_kept_id_at(views, first, n, k, views_overlap, pool, r, out_ids, to);
-        k += 1;
+    for k in 0..n {
+        to = put_kept_id_at(views, w.first, n, k, views_overlap, pool, r, out_ids, to);
     }
     to
 }
@@ -93,8 +90,7 @@ fn put_run_ids_at(
     ensures out_ids_after { out_ids.new ≡ write out_ids.old (c.ids * 2) (ids_laid (ids_used (run_shown (reach_of pool.now r) (run_in views.now pool.now (run_at runs.now i)).views))) }
 {
     let x = run_at(runs, i);
-    let w = x.views;
-    put_views_ids(views, w, false, pool, r, out_ids, c)
+    put_views_ids(views, x.views, false, pool, r, out_ids, c)
 }
 
 // Appends those of the views of the runs of a window.
@@ -112,12 +108,9 @@ fn put_runs_ids(
     ensures out_ids_after { out_ids.new ≡ write out_ids.old (c.ids * 2) (ids_laid (ids_used (joined run_views (runs_shown (reach_of pool.now r) (runs_in runs.now views.now pool.now w))))) }
 {
     let n = held(w, runs.len() / 3);
-    let first = w.first;
     let mut to = c;
-    let mut k = 0;
-    while k < n {
-        to = put_run_ids_at(runs, first + k, views, pool, r, out_ids, to);
-        k += 1;
+    for k in 0..n {
+        to = put_run_ids_at(runs, w.first + k, views, pool, r, out_ids, to);
     }
     to
 }
@@ -137,8 +130,6 @@ pub fn ids_shown(
     ensures value { result ≡ plus c (ids (length (ids_used (tree_views (tree_shown (reach_of pool.now r) (tree_in runs.now views.now pool.now t)))))) }
     ensures out_ids_after { out_ids.new ≡ write out_ids.old (c.ids * 2) (ids_laid (ids_used (tree_views (tree_shown (reach_of pool.now r) (tree_in runs.now views.now pool.now t))))) }
 {
-    let l0 = t.l0;
-    let compacted = t.compacted;
-    let to = put_views_ids(views, l0, true, pool, r, out_ids, c);
-    put_runs_ids(runs, compacted, views, pool, r, out_ids, to)
+    let to = put_views_ids(views, t.l0, true, pool, r, out_ids, c);
+    put_runs_ids(runs, t.compacted, views, pool, r, out_ids, to)
 }

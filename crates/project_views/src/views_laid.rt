@@ -11,10 +11,10 @@ ghost use Rattle.project_views.specs.Shown.{with_visible, runs_shown, tree_shown
 ghost use Rattle.project_views.specs.Steps.{flat_of, row_seen, left_in, piece_of, views_shown, run_piece};
 
 use crate::view_ranges::kept_at;
-use crate::{Flat, Kept, Reach, Until};
+use crate::{Flat, Reach, Until};
 use emit::{LaidTree, put_run_row, put_view, tree_row};
-use keys::{Bound, Range, Successor, part, successor_of};
-use records::{Fill, RunRow, TreeRow, ViewRow, Visible, run_at};
+use keys::{Bound, Range, part, successor_of};
+use records::{Fill, RunRow, TreeRow, ViewRow, run_at};
 use tables::{Window, held};
 
 // An end as bytes of the pool.
@@ -35,11 +35,11 @@ pub fn flat_end(pool: &[u8], u: Until) -> Flat
             grown: false,
         },
         Until::Successor(from, len) => match successor_of(part(pool, from, len)) {
-            Successor::Nowhere => Flat {
+            None => Flat {
                 end: Bound::Unbounded,
                 grown: false,
             },
-            Successor::Grown(n) => Flat {
+            Some(n) => Flat {
                 end: Bound::Excluded(from, n),
                 grown: true,
             },
@@ -51,16 +51,12 @@ pub fn flat_end(pool: &[u8], u: Until) -> Flat
 pub fn row_seen(v: ViewRow, start: Bound, end: Bound) -> ViewRow
     ensures { result ≡ row_seen v start end }
 {
-    let id = v.id;
-    let sst = v.sst;
-    let first = v.first;
-    let last = v.last;
-    let visible = Visible::Only(Range { start, end });
+    let visible = Some(Range { start, end });
     ViewRow {
-        id,
-        sst,
-        first,
-        last,
+        id: v.id,
+        sst: v.sst,
+        first: v.first,
+        last: v.last,
         visible,
     }
 }
@@ -89,11 +85,8 @@ fn put_left(
     ensures out_views_after { out_views.new ≡ write out_views.old (c.views * 16) (view_words (view_row c.bytes (with_visible (view_in pool.now v) (reach_of pool.now seen)))) }
     ensures out_pool_after { out_pool.new ≡ write out_pool.old c.bytes (view_bytes (with_visible (view_in pool.now v) (reach_of pool.now seen))) }
 {
-    let start = seen.start;
-    let until = seen.end;
-    let flat = flat_end(pool, until);
-    let end = flat.end;
-    let row = row_seen(v, start, end);
+    let flat = flat_end(pool, seen.end);
+    let row = row_seen(v, seen.start, flat.end);
     let past = put_view(row, pool, out_views, out_pool, c);
     if !flat.grown {
         return past;
@@ -103,7 +96,13 @@ fn put_left(
 }
 
 // Appends what is left of a view.
-fn put_kept(k: Kept, pool: &[u8], out_views: &mut [u64], out_pool: &mut [u8], c: Fill) -> Fill
+fn put_kept(
+    k: Option<(ViewRow, Reach)>,
+    pool: &[u8],
+    out_views: &mut [u64],
+    out_pool: &mut [u8],
+    c: Fill,
+) -> Fill
     requires k_in_bounds { (c.views + (sum view_fill (left_in pool.now k)).views) * 16 ≤ length out_views.old }
     requires k_in_bounds_2 { c.bytes + (sum view_fill (left_in pool.now k)).bytes ≤ length out_pool.old }
     ensures value { result ≡ plus c (sum view_fill (left_in pool.now k)) }
@@ -111,8 +110,8 @@ fn put_kept(k: Kept, pool: &[u8], out_views: &mut [u64], out_pool: &mut [u8], c:
     ensures out_pool_after { out_pool.new ≡ write out_pool.old c.bytes (joined view_bytes (left_in pool.now k)) }
 {
     match k {
-        Kept::Gone => c,
-        Kept::Left(v, seen) => put_left(v, seen, pool, out_views, out_pool, c),
+        None => c,
+        Some((v, seen)) => put_left(v, seen, pool, out_views, out_pool, c),
     }
 }
 
@@ -160,13 +159,11 @@ fn filter_view_handles(
     ensures out_pool_after { out_pool.new ≡ write out_pool.old c.bytes (joined view_bytes (views_shown views_overlap (reach_of pool.now r) (views_in views.now pool.now w))) }
 {
     let n = held(w, views.len() / 16);
-    let first = w.first;
     let mut to = c;
-    let mut k = 0;
-    while k < n {
+    for k in 0..n {
         to = put_kept_at(
             views,
-            first,
+            w.first,
             n,
             k,
             views_overlap,
@@ -176,7 +173,6 @@ fn filter_view_handles(
             out_pool,
             to,
         );
-        k += 1;
     }
     to
 }
@@ -202,8 +198,7 @@ fn put_run_shown(
     ensures out_views_after { out_views.new ≡ write out_views.old (c.views * 16) (runs_views_laid c (run_piece (reach_of pool.now r) (run_in views.now pool.now x))) }
     ensures out_pool_after { out_pool.new ≡ write out_pool.old c.bytes (joined run_bytes (run_piece (reach_of pool.now r) (run_in views.now pool.now x))) }
 {
-    let w = x.views;
-    let to = filter_view_handles(views, w, false, pool, r, out_views, out_pool, c);
+    let to = filter_view_handles(views, x.views, false, pool, r, out_views, out_pool, c);
     if to.views == c.views {
         return to;
     }
@@ -264,13 +259,11 @@ fn put_runs_shown(
     ensures out_pool_after { out_pool.new ≡ write out_pool.old c.bytes (joined run_bytes (runs_shown (reach_of pool.now r) (runs_in runs.now views.now pool.now w))) }
 {
     let n = held(w, runs.len() / 3);
-    let first = w.first;
     let mut to = c;
-    let mut k = 0;
-    while k < n {
+    for k in 0..n {
         to = put_run_shown_at(
             runs,
-            first + k,
+            w.first + k,
             views,
             pool,
             r,
@@ -279,7 +272,6 @@ fn put_runs_shown(
             out_pool,
             to,
         );
-        k += 1;
     }
     to
 }
@@ -307,14 +299,18 @@ pub fn project_tree_in_place(
     ensures out_views_after { out_views.new ≡ write out_views.old (c.views * 16) (tree_views_laid c (tree_shown (reach_of pool.now r) (tree_in runs.now views.now pool.now t))) }
     ensures out_pool_after { out_pool.new ≡ write out_pool.old c.bytes (tree_bytes (tree_shown (reach_of pool.now r) (tree_in runs.now views.now pool.now t))) }
 {
-    let view = t.view;
-    let sst = t.sst;
-    let l0 = t.l0;
-    let compacted = t.compacted;
-    let a = filter_view_handles(views, l0, true, pool, r, out_views, out_pool, c);
+    let a = filter_view_handles(views, t.l0, true, pool, r, out_views, out_pool, c);
     let past = put_runs_shown(
-        runs, compacted, views, pool, r, out_runs, out_views, out_pool, a,
+        runs,
+        t.compacted,
+        views,
+        pool,
+        r,
+        out_runs,
+        out_views,
+        out_pool,
+        a,
     );
-    let tree = tree_row(view, sst, c, a, past);
+    let tree = tree_row(t.view, t.sst, c, a, past);
     LaidTree { tree, past }
 }

@@ -10,12 +10,12 @@ ghost use Rattle.project_views.specs.Reach.{reach_of};
 ghost use Rattle.project_views.specs.Shown.{with_visible, runs_shown, tree_shown};
 ghost use Rattle.project_views.specs.Steps.{left_in, piece_of, views_shown, run_piece};
 
+use crate::Reach;
 use crate::view_ranges::kept_at;
 use crate::views_laid::{flat_end, row_seen};
-use crate::{Kept, Reach};
 use keys::{Bound, part};
 use lawful::{last_bound, seen_range};
-use measure::{Measured, add, fits_in};
+use measure::{add, fits_in};
 use records::{Fill, RunRow, TreeRow, ViewRow, run_at};
 use tables::{Window, held};
 
@@ -30,7 +30,7 @@ fn bound_len(pool: &[u8], b: Bound) -> usize
     }
 }
 
-fn add_bound(most: Fill, pool: &[u8], b: Bound, c: Fill) -> Measured
+fn add_bound(most: Fill, pool: &[u8], b: Bound, c: Fill) -> Option<Fill>
     ensures { result ≡ add_of most c (bytes (length (run (edge_keys (edge_of pool.now b))))) }
 {
     let n = bound_len(pool, b);
@@ -48,36 +48,23 @@ fn add_bound(most: Fill, pool: &[u8], b: Bound, c: Fill) -> Measured
     )
 }
 
-fn add_bounds(most: Fill, pool: &[u8], s: Bound, e: Bound, c: Fill) -> Measured
+fn add_bounds(most: Fill, pool: &[u8], s: Bound, e: Bound, c: Fill) -> Option<Fill>
     ensures { result ≡ add_of most c (plus (bytes (length (run (edge_keys (edge_of pool.now s))))) (bytes (length (run (edge_keys (edge_of pool.now e)))))) }
 {
-    let a = add_bound(most, pool, s, c);
-    let Measured::Fills(d) = a else {
-        return Measured::Broken;
-    };
+    let d = add_bound(most, pool, s, c)?;
     add_bound(most, pool, e, d)
 }
 
 // Adds a view.
 // inner
-pub fn add_view(most: Fill, pool: &[u8], v: ViewRow, c: Fill) -> Measured
+pub fn add_view(most: Fill, pool: &[u8], v: ViewRow, c: Fill) -> Option<Fill>
     ensures { result ≡ add_of most c (view_fill (view_in pool.now v)) }
 {
-    let last = v.last;
-    let visible = v.visible;
     let first = Bound::Included(v.first.at, v.first.len);
-    let end = last_bound(last);
-    let seen = seen_range(visible);
-    let from = seen.start;
-    let to = seen.end;
-    let a = add_bounds(most, pool, first, end, c);
-    let Measured::Fills(d) = a else {
-        return Measured::Broken;
-    };
-    let b = add_bounds(most, pool, from, to, d);
-    let Measured::Fills(e) = b else {
-        return Measured::Broken;
-    };
+    let end = last_bound(v.last);
+    let seen = seen_range(v.visible);
+    let d = add_bounds(most, pool, first, end, c)?;
+    let e = add_bounds(most, pool, seen.start, seen.end, d)?;
     add(
         most,
         e,
@@ -93,25 +80,22 @@ pub fn add_view(most: Fill, pool: &[u8], v: ViewRow, c: Fill) -> Measured
 }
 
 // Adds a view of which `seen` is visible.
-fn add_left(most: Fill, v: ViewRow, seen: Reach, pool: &[u8], c: Fill) -> Measured
+fn add_left(most: Fill, v: ViewRow, seen: Reach, pool: &[u8], c: Fill) -> Option<Fill>
     ensures { result ≡ add_of most c (view_fill (with_visible (view_in pool.now v) (reach_of pool.now seen))) }
 {
-    let start = seen.start;
-    let until = seen.end;
-    let flat = flat_end(pool, until);
-    let end = flat.end;
-    let row = row_seen(v, start, end);
+    let flat = flat_end(pool, seen.end);
+    let row = row_seen(v, seen.start, flat.end);
     add_view(most, pool, row, c)
 }
 
 // Adds what is left of a view.
-fn add_kept(most: Fill, k: Kept, pool: &[u8], c: Fill) -> Measured
+fn add_kept(most: Fill, k: Option<(ViewRow, Reach)>, pool: &[u8], c: Fill) -> Option<Fill>
     requires { fits c most ≡ true }
     ensures { result ≡ add_of most c (sum view_fill (left_in pool.now k)) }
 {
     match k {
-        Kept::Gone => Measured::Fills(c),
-        Kept::Left(v, seen) => add_left(most, v, seen, pool, c),
+        None => Some(c),
+        Some((v, seen)) => add_left(most, v, seen, pool, c),
     }
 }
 
@@ -126,7 +110,7 @@ fn add_kept_at(
     pool: &[u8],
     r: Reach,
     c: Fill,
-) -> Measured
+) -> Option<Fill>
     requires n_in_bounds { (first + n ≤ length views.now / 16) × (k < n) }
     requires most_value { fits c most ≡ true }
     ensures { result ≡ add_of most c (sum view_fill (piece_of (reach_of pool.now r) views_overlap (λ i. view_in pool.now (view_at views.now (first + i))) n k)) }
@@ -144,37 +128,33 @@ fn add_views_shown(
     pool: &[u8],
     r: Reach,
     c: Fill,
-) -> Measured
+) -> Option<Fill>
     requires { fits c most ≡ true }
     ensures { result ≡ add_of most c (sum view_fill (views_shown views_overlap (reach_of pool.now r) (views_in views.now pool.now w))) }
 {
     let n = held(w, views.len() / 16);
-    let first = w.first;
     let mut d = c;
-    let mut k = 0;
-    while k < n {
-        let s = add_kept_at(most, views, first, n, k, views_overlap, pool, r, d);
-        let Measured::Fills(e) = s else {
-            return Measured::Broken;
-        };
-        d = e;
-        k += 1;
+    for k in 0..n {
+        d = add_kept_at(most, views, w.first, n, k, views_overlap, pool, r, d)?;
     }
-    Measured::Fills(d)
+    Some(d)
 }
 
 // Adds what is left of a run.
-fn add_run_shown(most: Fill, x: RunRow, views: &[u64], pool: &[u8], r: Reach, c: Fill) -> Measured
+fn add_run_shown(
+    most: Fill,
+    x: RunRow,
+    views: &[u64],
+    pool: &[u8],
+    r: Reach,
+    c: Fill,
+) -> Option<Fill>
     requires { fits c most ≡ true }
     ensures { result ≡ add_of most c (sum run_fill (run_piece (reach_of pool.now r) (run_in views.now pool.now x))) }
 {
-    let w = x.views;
-    let s = add_views_shown(most, views, w, false, pool, r, c);
-    let Measured::Fills(d) = s else {
-        return Measured::Broken;
-    };
+    let d = add_views_shown(most, views, x.views, false, pool, r, c)?;
     if d.views == c.views {
-        return Measured::Fills(d);
+        return Some(d);
     }
     add(
         most,
@@ -199,7 +179,7 @@ fn add_run_shown_at(
     pool: &[u8],
     r: Reach,
     c: Fill,
-) -> Measured
+) -> Option<Fill>
     requires i_in_bounds { i < length runs.now / 3 }
     requires most_value { fits c most ≡ true }
     ensures { result ≡ add_of most c (sum run_fill (run_piece (reach_of pool.now r) (run_in views.now pool.now (run_at runs.now i)))) }
@@ -216,23 +196,16 @@ fn add_runs_shown(
     pool: &[u8],
     r: Reach,
     c: Fill,
-) -> Measured
+) -> Option<Fill>
     requires { fits c most ≡ true }
     ensures { result ≡ add_of most c (sum run_fill (runs_shown (reach_of pool.now r) (runs_in runs.now views.now pool.now w))) }
 {
     let n = held(w, runs.len() / 3);
-    let first = w.first;
     let mut d = c;
-    let mut k = 0;
-    while k < n {
-        let s = add_run_shown_at(most, runs, first + k, views, pool, r, d);
-        let Measured::Fills(e) = s else {
-            return Measured::Broken;
-        };
-        d = e;
-        k += 1;
+    for k in 0..n {
+        d = add_run_shown_at(most, runs, w.first + k, views, pool, r, d)?;
     }
-    Measured::Fills(d)
+    Some(d)
 }
 
 // What the range `r` leaves of a tree, measured: what that and `c` fill, where it is at most `most`.
@@ -245,17 +218,12 @@ pub fn measure_tree_shown(
     pool: &[u8],
     r: Reach,
     c: Fill,
-) -> Measured
+) -> Option<Fill>
     ensures { result ≡ add_of most c (tree_fill (tree_shown (reach_of pool.now r) (tree_in runs.now views.now pool.now t))) }
 {
     if !fits_in(c, most) {
-        return Measured::Broken;
+        return None;
     }
-    let l0 = t.l0;
-    let compacted = t.compacted;
-    let s = add_views_shown(most, views, l0, true, pool, r, c);
-    let Measured::Fills(d) = s else {
-        return Measured::Broken;
-    };
-    add_runs_shown(most, runs, compacted, views, pool, r, d)
+    let d = add_views_shown(most, views, t.l0, true, pool, r, c)?;
+    add_runs_shown(most, runs, t.compacted, views, pool, r, d)
 }

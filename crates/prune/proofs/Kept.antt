@@ -1,4 +1,5 @@
 -- What is left of one borrow and of a window's borrows, measured and laid. Assumes nothing.
+use Rattle.std.specs.Prelude.{Option, Some}
 use Prim.Native.Nat.{ℕ, zero, suc, ◌+◌, ◌-◌, ◌*◌, ◌/◌, ◌≤◌}
 use mathlib.Core.Path.{◌≡◌, refl, sym, ap, ◌∙◌}
 use mathlib.Core.Bool.{true}
@@ -24,8 +25,6 @@ use Rattle.records.proofs.Columns.{borrow_rows, borrow_ids_long, borrow_path_lon
 use Rattle.emit.proofs.Laid.{plain, joined_long}
 use Rattle.emit.proofs.Rows.{borrow_past, borrow_row_lem}
 use Rattle.measure.specs.Walk.{add_of}
-use Rattle.measure.specs.declared.Measured.{Measured}
-use Rattle.measure.specs.declared.Measured.TheVariants.{Fills}
 use Rattle.project_views.proofs.Many.{all, many, all_front, sum_many, joined_many, column_many}
 use Rattle.project_views.proofs.Ids.{LaidIds}
 use Rattle.project_views.proofs.Summed.{added_none}
@@ -37,11 +36,11 @@ abbrev left : Borrow → List SstId → Borrow
 left b xs = record { path = b.path; source = b.source; final = b.final; ids = xs }
 
 module _ (most : Fill) (b : Borrow) (c : Fill) (n : ℕ) where
-  pub add_gone : (xs : List SstId) → fits c most ≡ true → n ≡ length xs → n ≡ 0 → Fills c ≡ add_of most c (sum borrow_fill (kept_borrow b xs))
+  pub add_gone : (xs : List SstId) → fits c most ≡ true → n ≡ length xs → n ≡ 0 → Some c ≡ add_of most c (sum borrow_fill (kept_borrow b xs))
   add_gone [] h e z = added_none most c h
   add_gone (x ∷ xs) h e z = absurd (omega arith)
 
-  pub add_left : (xs : List SstId) (k : List ℕ) (r : Measured) → n ≡ length xs → (n ≡ 0 → ⊥) → k ≡ b.path
+  pub add_left : (xs : List SstId) (k : List ℕ) (r : Option Fill) → n ≡ length xs → (n ≡ 0 → ⊥) → k ≡ b.path
       → r ≡ add_of most c (record { segments = 0; views = 0; runs = 0; borrows = 1; ids = n; bytes = length k }) → r ≡ add_of most c (sum borrow_fill (kept_borrow b xs))
   unfolding borrow_fill
   add_left [] k r e z p q = absurd (z e)

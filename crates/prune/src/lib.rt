@@ -16,9 +16,9 @@ ghost use Rattle.prune.specs.Prune.{used_only, kept_borrow, pruned};
 use emit::{put_borrow_row, put_id};
 use ids::names;
 use keys::part;
-use measure::{Measured, add, fits_in};
+use measure::{add, fits_in};
 use records::{BorrowRow, Fill, Place, borrow_at, id_at};
-use tables::{Window, held, put_bytes};
+use tables::{Window, held, put};
 
 // ---- the ids of a window that are in use
 
@@ -38,12 +38,9 @@ fn count_used(ids: &[u64], w: Window, used: &[u64]) -> usize
     ensures { result ≡ length (used_only (ids_of used.now) (ids_in ids.now w)) }
 {
     let n = held(w, ids.len() / 2);
-    let first = w.first;
     let mut m = 0;
-    let mut k = 0;
-    while k < n {
-        m += used_at(ids, first + k, used);
-        k += 1;
+    for k in 0..n {
+        m += used_at(ids, w.first + k, used);
     }
     m
 }
@@ -69,12 +66,9 @@ fn put_used(ids: &[u64], w: Window, used: &[u64], out_ids: &mut [u64], c: Fill) 
     ensures out_ids_after { out_ids.new ≡ write out_ids.old (c.ids * 2) (ids_laid (used_only (ids_of used.now) (ids_in ids.now w))) }
 {
     let n = held(w, ids.len() / 2);
-    let first = w.first;
     let mut to = c;
-    let mut k = 0;
-    while k < n {
-        to = put_used_at(ids, first + k, used, out_ids, to);
-        k += 1;
+    for k in 0..n {
+        to = put_used_at(ids, w.first + k, used, out_ids, to);
     }
     to
 }
@@ -82,14 +76,20 @@ fn put_used(ids: &[u64], w: Window, used: &[u64], out_ids: &mut [u64], c: Fill) 
 // ---- what is left, measured: each part is added to `c`, which is at most `most`, and the first that is too much ends the walk
 
 // Adds what is left of a borrow.
-fn add_kept(most: Fill, b: BorrowRow, ids: &[u64], pool: &[u8], used: &[u64], c: Fill) -> Measured
+fn add_kept(
+    most: Fill,
+    b: BorrowRow,
+    ids: &[u64],
+    pool: &[u8],
+    used: &[u64],
+    c: Fill,
+) -> Option<Fill>
     requires { fits c most ≡ true }
     ensures { result ≡ add_of most c (sum borrow_fill (kept_borrow (borrow_in ids.now pool.now b) (used_only (ids_of used.now) (borrow_in ids.now pool.now b).ids))) }
 {
-    let w = b.ids;
-    let n = count_used(ids, w, used);
+    let n = count_used(ids, b.ids, used);
     if n == 0 {
-        return Measured::Fills(c);
+        return Some(c);
     }
     let path = part(pool, b.path.at, b.path.len);
     add(
@@ -115,7 +115,7 @@ fn add_kept_at(
     pool: &[u8],
     used: &[u64],
     c: Fill,
-) -> Measured
+) -> Option<Fill>
     requires i_in_bounds { i < length borrows.now / 9 }
     requires most_value { fits c most ≡ true }
     ensures { result ≡ add_of most c (sum borrow_fill (kept_borrow (borrow_in ids.now pool.now (borrow_at borrows.now i)) (used_only (ids_of used.now) (borrow_in ids.now pool.now (borrow_at borrows.now i)).ids))) }
@@ -134,25 +134,18 @@ pub fn measure_pruned(
     pool: &[u8],
     used: &[u64],
     c: Fill,
-) -> Measured
+) -> Option<Fill>
     ensures { result ≡ add_of most c (sum borrow_fill (pruned (ids_of used.now) (borrows_in borrows.now ids.now pool.now w))) }
 {
     if !fits_in(c, most) {
-        return Measured::Broken;
+        return None;
     }
     let n = held(w, borrows.len() / 9);
-    let first = w.first;
     let mut d = c;
-    let mut k = 0;
-    while k < n {
-        let s = add_kept_at(most, borrows, first + k, ids, pool, used, d);
-        let Measured::Fills(e) = s else {
-            return Measured::Broken;
-        };
-        d = e;
-        k += 1;
+    for k in 0..n {
+        d = add_kept_at(most, borrows, w.first + k, ids, pool, used, d)?;
     }
-    Measured::Fills(d)
+    Some(d)
 }
 
 // ---- what is left, written
@@ -163,15 +156,13 @@ fn put_row(b: BorrowRow, out_borrows: &mut [u64], c: Fill, past: usize, to: Fill
     ensures value { result ≡ record { segments = c.segments; views = c.views; runs = c.runs; borrows = c.borrows + 1; ids = to.ids; bytes = past } }
     ensures out_borrows_after { out_borrows.new ≡ write out_borrows.old (c.borrows * 9) (borrow_words (record { path = record { at = c.bytes; len = past - c.bytes }; source = b.source; fin = b.fin; ids = record { first = c.ids; count = to.ids - c.ids } })) }
 {
-    let source = b.source;
-    let fin = b.fin;
     let row = BorrowRow {
         path: Place {
             at: c.bytes,
             len: past - c.bytes,
         },
-        source,
-        fin,
+        source: b.source,
+        fin: b.fin,
         ids: Window {
             first: c.ids,
             count: to.ids - c.ids,
@@ -207,13 +198,12 @@ fn put_kept(
     ensures out_ids_after { out_ids.new ≡ write out_ids.old (c.ids * 2) (joined borrow_ids (kept_borrow (borrow_in ids.now pool.now b) (used_only (ids_of used.now) (borrow_in ids.now pool.now b).ids))) }
     ensures out_pool_after { out_pool.new ≡ write out_pool.old c.bytes (joined borrow_path (kept_borrow (borrow_in ids.now pool.now b) (used_only (ids_of used.now) (borrow_in ids.now pool.now b).ids))) }
 {
-    let w = b.ids;
-    let to = put_used(ids, w, used, out_ids, c);
+    let to = put_used(ids, b.ids, used, out_ids, c);
     if to.ids == c.ids {
         return to;
     }
     let path = part(pool, b.path.at, b.path.len);
-    let past = put_bytes(path, out_pool, c.bytes);
+    let past = put(path, out_pool, c.bytes);
     put_row(b, out_borrows, c, past, to)
 }
 
@@ -272,13 +262,11 @@ pub fn prune_external_sst_ids(
     ensures out_pool_after { out_pool.new ≡ write out_pool.old c.bytes (joined borrow_path (pruned (ids_of used.now) (borrows_in borrows.now ids.now pool.now w))) }
 {
     let n = held(w, borrows.len() / 9);
-    let first = w.first;
     let mut to = c;
-    let mut k = 0;
-    while k < n {
+    for k in 0..n {
         to = put_kept_at(
             borrows,
-            first + k,
+            w.first + k,
             ids,
             pool,
             used,
@@ -287,7 +275,6 @@ pub fn prune_external_sst_ids(
             out_pool,
             to,
         );
-        k += 1;
     }
     to
 }

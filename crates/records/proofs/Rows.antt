@@ -1,4 +1,5 @@
 -- The words of a row read back as the row, wherever they stand in a table. Assumes nothing.
+use Rattle.std.specs.Prelude.{None, Option, Some}
 use Prim.Native.Nat.{ℕ, ◌*◌}
 use mathlib.Core.Path.{◌≡◌, refl}
 use mathlib.Core.List.{List}
@@ -7,24 +8,18 @@ use lib.ListN.{length}
 use Rattle.keys.specs.declared.Bound.{Bound}
 use Rattle.keys.specs.declared.Bound.TheVariants.{Unbounded, Included, Excluded}
 use Rattle.ids.specs.declared.SstId.{SstId}
-use Rattle.ids.specs.declared.ViewMark.{ViewMark}
-use Rattle.ids.specs.declared.ViewMark.TheVariants as view_marks
-use Rattle.ids.specs.declared.SstMark.{SstMark}
-use Rattle.ids.specs.declared.SstMark.TheVariants as sst_marks
-use Rattle.ids.specs.declared.Final.{Final}
-use Rattle.ids.specs.declared.Final.TheVariants as final
 use Rattle.tables.proofs.Holds.{Holds, holds_head, holds_word}
 use Rattle.records.specs.Row.{bound_of, optional, view_at, run_at, tree_at, segment_at, borrow_at, id_at}
 use Rattle.records.specs.Words.{bound_cell, last_cell, view_mark_cell, sst_mark_cell, final_cell, visible_cells, view_words, run_words, tree_words, segment_words, borrow_words, id_words}
 use Rattle.records.specs.declared.Cell.{Cell}
-use Rattle.records.specs.declared.Last.{Last}
-use Rattle.records.specs.declared.Last.TheVariants.{Unknown, Known}
-use Rattle.records.specs.declared.Visible.{Visible}
-use Rattle.records.specs.declared.Visible.TheVariants.{All, Only}
 use Rattle.records.specs.declared.ViewRow.{ViewRow}
 use Rattle.records.specs.declared.RunRow.{RunRow}
 use Rattle.records.specs.declared.SegmentRow.{SegmentRow}
 use Rattle.records.specs.declared.BorrowRow.{BorrowRow}
+use Rattle.ids.specs.declared.ViewId.{ViewId}
+use Rattle.ids.specs.declared.Uuid.{Uuid}
+use Rattle.records.specs.declared.Place.{Place}
+use Rattle.keys.specs.declared.Range.{Range}
 
 -- ---- a code and its numbers
 
@@ -37,26 +32,26 @@ bound_back Unbounded = refl
 bound_back (Included from len) = refl
 bound_back (Excluded from len) = refl
 
-pub last_back : (l : Last) → optional Unknown Known (last_cell l).code (record { at = (last_cell l).a; len = (last_cell l).b }) ≡ l
-last_back Unknown = refl
-last_back (Known p) = refl
+pub last_back : (l : Option Place) → optional None Some (last_cell l).code (record { at = (last_cell l).a; len = (last_cell l).b }) ≡ l
+last_back None = refl
+last_back (Some p) = refl
 
-pub visible_back : (v : Visible)
-    → optional All Only (visible_cells v).code (record { start = bound_in (visible_cells v).start; end = bound_in (visible_cells v).end }) ≡ v
-visible_back All = refl
-visible_back (Only r) = rw (bound_back r.start, bound_back r.end)
+pub visible_back : (v : Option Range)
+    → optional None Some (visible_cells v).code (record { start = bound_in (visible_cells v).start; end = bound_in (visible_cells v).end }) ≡ v
+visible_back None = refl
+visible_back (Some r) = rw (bound_back r.start, bound_back r.end)
 
-pub view_mark_back : (m : ViewMark) → optional view_marks.None view_marks.Some (view_mark_cell m).code (record { 0 = (view_mark_cell m).a; 1 = (view_mark_cell m).b }) ≡ m
-view_mark_back view_marks.None = refl
-view_mark_back (view_marks.Some x) = refl
+pub view_mark_back : (m : Option ViewId) → optional None Some (view_mark_cell m).code (record { 0 = (view_mark_cell m).a; 1 = (view_mark_cell m).b }) ≡ m
+view_mark_back None = refl
+view_mark_back (Some x) = refl
 
-pub sst_mark_back : (m : SstMark) → optional sst_marks.None sst_marks.Some (sst_mark_cell m).code (record { 0 = (sst_mark_cell m).a; 1 = (sst_mark_cell m).b }) ≡ m
-sst_mark_back sst_marks.None = refl
-sst_mark_back (sst_marks.Some x) = refl
+pub sst_mark_back : (m : Option SstId) → optional None Some (sst_mark_cell m).code (record { 0 = (sst_mark_cell m).a; 1 = (sst_mark_cell m).b }) ≡ m
+sst_mark_back None = refl
+sst_mark_back (Some x) = refl
 
-pub final_back : (f : Final) → optional final.None final.Some (final_cell f).code (record { 0 = (final_cell f).a; 1 = (final_cell f).b }) ≡ f
-final_back final.None = refl
-final_back (final.Some x) = refl
+pub final_back : (f : Option Uuid) → optional None Some (final_cell f).code (record { 0 = (final_cell f).a; 1 = (final_cell f).b }) ≡ f
+final_back None = refl
+final_back (Some x) = refl
 
 -- ---- rows
 

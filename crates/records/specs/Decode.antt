@@ -1,5 +1,5 @@
 -- Which manifest stands in the lent tables.
-use Rattle.std.specs.Prelude.{ℕ, ◌+◌, ◌/◌, List, length}
+use Rattle.std.specs.Prelude.{ℕ, ◌+◌, ◌/◌, List, length, None, Option, Some}
 use Rattle.keys.specs.Pool.{part_of, edges_of}
 use Rattle.ids.specs.declared.SstId.{SstId}
 use Rattle.tables.specs.Layout.{up_to}
@@ -8,18 +8,13 @@ use Rattle.tables.specs.declared.Window.{Window}
 use Rattle.records.specs.Model.{LastKey, unknown, known, Seen, all, only, View, Run, Tree, Segment, Borrow, Extractor, none, named, Manifest}
 use Rattle.records.specs.Row.{view_at, run_at, segment_at, borrow_at, id_at}
 use Rattle.records.specs.declared.Place.{Place}
-use Rattle.records.specs.declared.Last.{Last}
-use Rattle.records.specs.declared.Last.TheVariants.{Unknown, Known}
-use Rattle.records.specs.declared.Visible.{Visible}
-use Rattle.records.specs.declared.Visible.TheVariants.{All, Only}
-use Rattle.records.specs.declared.Name.{Name}
-use Rattle.records.specs.declared.Name.TheVariants.{Absent, Named}
 use Rattle.records.specs.declared.ViewRow.{ViewRow}
 use Rattle.records.specs.declared.RunRow.{RunRow}
 use Rattle.records.specs.declared.TreeRow.{TreeRow}
 use Rattle.records.specs.declared.SegmentRow.{SegmentRow}
 use Rattle.records.specs.declared.BorrowRow.{BorrowRow}
 use Rattle.records.specs.declared.ManifestRow.{ManifestRow}
+use Rattle.keys.specs.declared.Range.{Range}
 
 -- the six lent tables: five of words, and the pool of bytes
 pub record Lent : Type 0 where
@@ -34,13 +29,13 @@ pub record Lent : Type 0 where
 abbrev pub bytes_in : List ℕ → Place → List ℕ
 bytes_in pool p = part_of pool p.at p.len
 
-abbrev pub last_in : List ℕ → Last → LastKey
-last_in pool Unknown = unknown
-last_in pool (Known p) = known (bytes_in pool p)
+abbrev pub last_in : List ℕ → Option Place → LastKey
+last_in pool None = unknown
+last_in pool (Some p) = known (bytes_in pool p)
 
-abbrev pub seen_in : List ℕ → Visible → Seen
-seen_in pool All = all
-seen_in pool (Only r) = only (edges_of pool r)
+abbrev pub seen_in : List ℕ → Option Range → Seen
+seen_in pool None = all
+seen_in pool (Some r) = only (edges_of pool r)
 
 unfoldable pub view_in : List ℕ → ViewRow → View
 view_in pool v =
@@ -76,9 +71,9 @@ borrow_in ids pool b =
 unfoldable pub borrows_in : List ℕ → List ℕ → List ℕ → Window → List Borrow
 borrows_in borrows ids pool w = up_to (λ k. borrow_in ids pool (borrow_at borrows (w.first + k))) (held_of w (length borrows / 9))
 
-abbrev pub name_in : List ℕ → Name → Extractor
-name_in pool Absent = none
-name_in pool (Named p) = named (bytes_in pool p)
+abbrev pub name_in : List ℕ → Option Place → Extractor
+name_in pool None = none
+name_in pool (Some p) = named (bytes_in pool p)
 
 unfoldable pub manifest_in : Lent → ManifestRow → Manifest
 manifest_in l m =

@@ -1,7 +1,7 @@
 -- The canonical layout: which words and bytes stand for a manifest. Records in order, the unsegmented tree first, of a tree
 -- its L0, then run by run; every prefix, key, path and name at the end of the pool so far, each occurrence, no gap.
 -- What was laid before is handed on as what it fills: a `Fill`.
-use Rattle.std.specs.Prelude.{ℕ, ◌+◌, List, [], ◌∷◌, ◌++◌, length}
+use Rattle.std.specs.Prelude.{ℕ, ◌+◌, List, [], ◌∷◌, ◌++◌, length, None, Option, Some}
 use Rattle.keys.specs.Range.{Edge, unbounded, included, excluded}
 use Rattle.keys.specs.declared.Bound.{Bound}
 use Rattle.keys.specs.declared.Bound.TheVariants.{Unbounded, Included, Excluded}
@@ -13,18 +13,13 @@ use Rattle.records.specs.Words.{view_words, run_words, segment_words, borrow_wor
 use Rattle.records.specs.Fill.{empty, plus, sum, key_fill, segments, last_keys, edge_keys, view_keys, name_keys, view_fill, run_fill, tree_fill, segment_fill, borrow_fill}
 use Rattle.records.specs.declared.Fill.{Fill}
 use Rattle.records.specs.declared.Place.{Place}
-use Rattle.records.specs.declared.Last.{Last}
-use Rattle.records.specs.declared.Last.TheVariants.{Unknown, Known}
-use Rattle.records.specs.declared.Visible.{Visible}
-use Rattle.records.specs.declared.Visible.TheVariants.{All, Only}
-use Rattle.records.specs.declared.Name.{Name}
-use Rattle.records.specs.declared.Name.TheVariants.{Absent, Named}
 use Rattle.records.specs.declared.ViewRow.{ViewRow}
 use Rattle.records.specs.declared.RunRow.{RunRow}
 use Rattle.records.specs.declared.TreeRow.{TreeRow}
 use Rattle.records.specs.declared.SegmentRow.{SegmentRow}
 use Rattle.records.specs.declared.BorrowRow.{BorrowRow}
 use Rattle.records.specs.declared.ManifestRow.{ManifestRow}
+use Rattle.keys.specs.declared.Range.{Range}
 
 -- some byte strings, one after the other
 abbrev pub run : List (List ℕ) → List ℕ
@@ -35,18 +30,18 @@ run ks = joined (λ k. k) ks
 abbrev pub placed : ℕ → List ℕ → Place
 placed from k = record { at = from; len = length k }
 
-abbrev pub last_row : ℕ → LastKey → Last
-last_row from unknown = Unknown
-last_row from (known k) = Known (placed from k)
+abbrev pub last_row : ℕ → LastKey → Option Place
+last_row from unknown = None
+last_row from (known k) = Some (placed from k)
 
 abbrev pub bound_row : ℕ → Edge → Bound
 bound_row from unbounded = Unbounded
 bound_row from (included k) = Included from (length k)
 bound_row from (excluded k) = Excluded from (length k)
 
-abbrev pub visible_row : ℕ → Seen → Visible
-visible_row from all = All
-visible_row from (only r) = Only (record { start = bound_row from r.start; end = bound_row (from + length (run (edge_keys r.start))) r.end })
+abbrev pub visible_row : ℕ → Seen → Option Range
+visible_row from all = None
+visible_row from (only r) = Some (record { start = bound_row from r.start; end = bound_row (from + length (run (edge_keys r.start))) r.end })
 
 unfoldable pub view_row : ℕ → View → ViewRow
 view_row from v =
@@ -77,9 +72,9 @@ unfoldable pub borrow_row : Fill → Borrow → BorrowRow
 borrow_row c b =
     record { path = placed c.bytes b.path; source = b.source; fin = b.final; ids = record { first = c.ids; count = length b.ids } }
 
-abbrev pub name_row : ℕ → Extractor → Name
-name_row from none = Absent
-name_row from (named k) = Named (placed from k)
+abbrev pub name_row : ℕ → Extractor → Option Place
+name_row from none = None
+name_row from (named k) = Some (placed from k)
 
 -- ---- words: the rows of some records, each laid where those before it end
 

@@ -1,13 +1,10 @@
 -- Document 01's records, over plain lists. A key, a prefix, a path and a name are lists of bytes.
-use Rattle.std.specs.Prelude.{ℕ, Bool, List, [], ◌∷◌, ℤ}
+use Rattle.std.specs.Prelude.{ℕ, Bool, List, [], ◌∷◌, ℤ, Option}
 use Rattle.keys.specs.Range.{Edge, unbounded, included, excluded, Edges}
 use Rattle.keys.specs.Meet.{meet_of}
 use Rattle.ids.specs.declared.ViewId.{ViewId}
 use Rattle.ids.specs.declared.SstId.{SstId}
 use Rattle.ids.specs.declared.Uuid.{Uuid}
-use Rattle.ids.specs.declared.ViewMark.{ViewMark}
-use Rattle.ids.specs.declared.SstMark.{SstMark}
-use Rattle.ids.specs.declared.Final.{Final}
 
 -- "last key or unknown"
 pub data LastKey : Type 0 where
@@ -34,8 +31,8 @@ pub record Run : Type 0 where
 
 -- "Tree: optional view watermark, optional SST watermark, L0 views in order, runs in order."
 pub record Tree : Type 0 where
-  pub view_mark : ViewMark
-  pub sst_mark : SstMark
+  pub view_mark : Option ViewId
+  pub sst_mark : Option SstId
   pub l0 : List View
   pub runs : List Run
 
@@ -48,7 +45,7 @@ pub record Segment : Type 0 where
 pub record Borrow : Type 0 where
   pub path : List ℕ
   pub source : Uuid
-  pub final : Final
+  pub final : Option Uuid
   pub ids : List SstId
 
 -- "extractor name or none"

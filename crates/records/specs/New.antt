@@ -1,12 +1,10 @@
 -- The new manifest.
-use Rattle.std.specs.Prelude.{true, [], negsuc}
-use Rattle.ids.specs.declared.ViewMark.TheVariants as view_marks
-use Rattle.ids.specs.declared.SstMark.TheVariants as sst_marks
+use Rattle.std.specs.Prelude.{true, [], negsuc, None}
 use Rattle.records.specs.Model.{Tree, none, Manifest}
 
 -- "A tree newly entered, or standing for an absent one, has no watermarks either."
 abbrev pub new_tree : Tree
-new_tree = record { view_mark = view_marks.None; sst_mark = sst_marks.None; l0 = []; runs = [] }
+new_tree = record { view_mark = None; sst_mark = None; l0 = []; runs = [] }
 
 -- "The new manifest is, whole: 9c c3 94 c0 c0 90 90 90 c0 01 00 d3 80 00 00 00 00 00 00 00 00 00 90 00 00": initialized, next_wal_sst_id 1, the
 -- clock tick the least i64, all else empty, absent or 0.

@@ -1,25 +1,18 @@
 -- What a row of each table says, word by word.
-use Rattle.std.specs.Prelude.{ℕ, zero, suc, ◌+◌, ◌*◌, List, get_or}
+use Rattle.std.specs.Prelude.{ℕ, zero, suc, ◌+◌, ◌*◌, List, get_or, None, Option, Some}
 use Rattle.keys.specs.declared.Bound.{Bound}
 use Rattle.keys.specs.declared.Bound.TheVariants.{Unbounded, Included, Excluded}
 use Rattle.ids.specs.declared.SstId.{SstId}
-use Rattle.ids.specs.declared.ViewMark.{ViewMark}
-use Rattle.ids.specs.declared.ViewMark.TheVariants as view_marks
-use Rattle.ids.specs.declared.SstMark.{SstMark}
-use Rattle.ids.specs.declared.SstMark.TheVariants as sst_marks
-use Rattle.ids.specs.declared.Final.{Final}
-use Rattle.ids.specs.declared.Final.TheVariants as final
 use Rattle.tables.specs.declared.Window.{Window}
 use Rattle.records.specs.declared.Place.{Place}
-use Rattle.records.specs.declared.Last.{Last}
-use Rattle.records.specs.declared.Last.TheVariants.{Unknown, Known}
-use Rattle.records.specs.declared.Visible.{Visible}
-use Rattle.records.specs.declared.Visible.TheVariants.{All, Only}
 use Rattle.records.specs.declared.ViewRow.{ViewRow}
 use Rattle.records.specs.declared.RunRow.{RunRow}
 use Rattle.records.specs.declared.TreeRow.{TreeRow}
 use Rattle.records.specs.declared.SegmentRow.{SegmentRow}
 use Rattle.records.specs.declared.BorrowRow.{BorrowRow}
+use Rattle.ids.specs.declared.ViewId.{ViewId}
+use Rattle.ids.specs.declared.Uuid.{Uuid}
+use Rattle.keys.specs.declared.Range.{Range}
 
 -- the word at i
 abbrev pub at : List ℕ → ℕ → ℕ
@@ -48,22 +41,25 @@ optional none some zero x = none
 optional none some (suc k) x = some x
 
 -- three words: a code, and the place of the key
-abbrev pub last_at : List ℕ → ℕ → Last
-last_at t b = optional Unknown Known (at t b) (place_at t (b + 1))
+abbrev pub last_at : List ℕ → ℕ → Option Place
+last_at t b = optional None Some (at t b) (place_at t (b + 1))
 
 -- seven words: a code, and the range's two bounds
-abbrev pub visible_at : List ℕ → ℕ → Visible
-visible_at t b = optional All Only (at t b) (record { start = bound_at t (b + 1); end = bound_at t (b + 4) })
+abbrev pub visible_at : List ℕ → ℕ → Option Range
+visible_at t b = optional None Some (at t b) (record { start = bound_at t (b + 1); end = bound_at t (b + 4) })
 
--- three words: a code, and the two halves of an id
-abbrev pub view_mark_at : List ℕ → ℕ → ViewMark
-view_mark_at t b = optional view_marks.None view_marks.Some (at t b) (record { 0 = at t (b + 1); 1 = at t (b + 2) })
+-- three words: a code, and the two halves of an id, whatever type holds it
+abbrev pub mark_at : {A : Type 0} → (ℕ → ℕ → A) → List ℕ → ℕ → Option A
+mark_at of t b = optional None Some (at t b) (of (at t (b + 1)) (at t (b + 2)))
 
-abbrev pub sst_mark_at : List ℕ → ℕ → SstMark
-sst_mark_at t b = optional sst_marks.None sst_marks.Some (at t b) (record { 0 = at t (b + 1); 1 = at t (b + 2) })
+abbrev pub view_mark_at : List ℕ → ℕ → Option ViewId
+view_mark_at t b = optional None Some (at t b) (record { 0 = at t (b + 1); 1 = at t (b + 2) })
 
-abbrev pub final_at : List ℕ → ℕ → Final
-final_at t b = optional final.None final.Some (at t b) (record { 0 = at t (b + 1); 1 = at t (b + 2) })
+abbrev pub sst_mark_at : List ℕ → ℕ → Option SstId
+sst_mark_at t b = optional None Some (at t b) (record { 0 = at t (b + 1); 1 = at t (b + 2) })
+
+abbrev pub final_at : List ℕ → ℕ → Option Uuid
+final_at t b = optional None Some (at t b) (record { 0 = at t (b + 1); 1 = at t (b + 2) })
 
 -- a view: 0 view id, 2 SST id, 4 first key, 6 last key, 9 visible range
 unfoldable pub view_at : List ℕ → ℕ → ViewRow

@@ -1,25 +1,19 @@
 -- The words of each row: what `Row` reads, written. An absent key, range or id leaves zeros.
-use Rattle.std.specs.Prelude.{ℕ, List, [], ◌∷◌, ◌++◌}
+use Rattle.std.specs.Prelude.{ℕ, List, [], ◌∷◌, ◌++◌, None, Option, Some}
 use Rattle.keys.specs.declared.Bound.{Bound}
 use Rattle.keys.specs.declared.Bound.TheVariants.{Unbounded, Included, Excluded}
 use Rattle.ids.specs.declared.SstId.{SstId}
-use Rattle.ids.specs.declared.ViewMark.{ViewMark}
-use Rattle.ids.specs.declared.ViewMark.TheVariants as view_marks
-use Rattle.ids.specs.declared.SstMark.{SstMark}
-use Rattle.ids.specs.declared.SstMark.TheVariants as sst_marks
-use Rattle.ids.specs.declared.Final.{Final}
-use Rattle.ids.specs.declared.Final.TheVariants as final
 use Rattle.records.specs.declared.Cell.{Cell}
 use Rattle.records.specs.declared.Cells.{Cells}
-use Rattle.records.specs.declared.Last.{Last}
-use Rattle.records.specs.declared.Last.TheVariants.{Unknown, Known}
-use Rattle.records.specs.declared.Visible.{Visible}
-use Rattle.records.specs.declared.Visible.TheVariants.{All, Only}
 use Rattle.records.specs.declared.ViewRow.{ViewRow}
 use Rattle.records.specs.declared.RunRow.{RunRow}
 use Rattle.records.specs.declared.TreeRow.{TreeRow}
 use Rattle.records.specs.declared.SegmentRow.{SegmentRow}
 use Rattle.records.specs.declared.BorrowRow.{BorrowRow}
+use Rattle.ids.specs.declared.ViewId.{ViewId}
+use Rattle.ids.specs.declared.Uuid.{Uuid}
+use Rattle.records.specs.declared.Place.{Place}
+use Rattle.keys.specs.declared.Range.{Range}
 
 -- a code and two numbers
 abbrev pub cell : ℕ → ℕ → ℕ → Cell
@@ -33,25 +27,27 @@ bound_cell Unbounded = nothing
 bound_cell (Included from len) = cell 1 from len
 bound_cell (Excluded from len) = cell 2 from len
 
-abbrev pub last_cell : Last → Cell
-last_cell Unknown = nothing
-last_cell (Known p) = cell 1 p.at p.len
+abbrev pub last_cell : Option Place → Cell
+last_cell None = nothing
+last_cell (Some p) = cell 1 p.at p.len
 
-abbrev pub view_mark_cell : ViewMark → Cell
-view_mark_cell view_marks.None = nothing
-view_mark_cell (view_marks.Some x) = cell 1 x.0 x.1
+-- the two halves of an id, whatever type holds it
+abbrev pub mark_cell : {A : Type 0} → (A → ℕ × ℕ) → Option A → Cell
+mark_cell halves None = nothing
+mark_cell halves (Some x) = cell 1 (halves x).0 (halves x).1
 
-abbrev pub sst_mark_cell : SstMark → Cell
-sst_mark_cell sst_marks.None = nothing
-sst_mark_cell (sst_marks.Some x) = cell 1 x.0 x.1
+abbrev pub view_mark_cell : Option ViewId → Cell
+view_mark_cell = mark_cell λ x. (x.0, x.1)
 
-abbrev pub final_cell : Final → Cell
-final_cell final.None = nothing
-final_cell (final.Some x) = cell 1 x.0 x.1
+abbrev pub sst_mark_cell : Option SstId → Cell
+sst_mark_cell = mark_cell λ x. (x.0, x.1)
 
-abbrev pub visible_cells : Visible → Cells
-visible_cells All = record { code = 0; start = nothing; end = nothing }
-visible_cells (Only r) = record { code = 1; start = bound_cell r.start; end = bound_cell r.end }
+abbrev pub final_cell : Option Uuid → Cell
+final_cell = mark_cell λ x. (x.0, x.1)
+
+abbrev pub visible_cells : Option Range → Cells
+visible_cells None = record { code = 0; start = nothing; end = nothing }
+visible_cells (Some r) = record { code = 1; start = bound_cell r.start; end = bound_cell r.end }
 
 abbrev pub cell_words : Cell → List ℕ
 cell_words c = c.code ∷ c.a ∷ c.b ∷ []

@@ -9,12 +9,12 @@ ghost use Rattle.std.specs.Prelude.{◌≡◌, [], ◌∷◌};
 ghost use Rattle.records.specs.Refusals.{refusal};
 ghost use Rattle.records.specs.Limits.{limits01};
 
-use ids::{Final, SstId, SstMark, Uuid, ViewId, ViewMark};
+use ids::{SstId, Uuid, ViewId};
 use keys::Range;
 pub use rows_read::{
     borrow_at, bound_at, id_at, place_at, run_at, segment_at, tree_at, view_at, window_at,
 };
-pub use rows_words::{borrow_words, id_words, run_words, segment_words, view_words};
+pub use rows_words::{borrow_words, bound_cell, id_words, run_words, segment_words, view_words};
 use tables::Window;
 
 // A byte string: so many bytes of the pool.
@@ -24,28 +24,14 @@ pub struct Place {
     pub len: usize,
 }
 
-// A view's last key.
-#[derive(Clone, Copy)]
-pub enum Last {
-    Unknown,
-    Known(Place),
-}
-
-// A view's visible range, or none.
-#[derive(Clone, Copy)]
-pub enum Visible {
-    All,
-    Only(Range),
-}
-
 // A view: 16 words a row.
 #[derive(Clone, Copy)]
 pub struct ViewRow {
     pub id: ViewId,
     pub sst: SstId,
     pub first: Place,
-    pub last: Last,
-    pub visible: Visible,
+    pub last: Option<Place>,
+    pub visible: Option<Range>,
 }
 
 // A run: 3 words a row.
@@ -58,8 +44,8 @@ pub struct RunRow {
 // A tree: in a segment's row, or in the manifest's own value.
 #[derive(Clone, Copy)]
 pub struct TreeRow {
-    pub view: ViewMark,
-    pub sst: SstMark,
+    pub view: Option<ViewId>,
+    pub sst: Option<SstId>,
     pub l0: Window,
     pub compacted: Window,
 }
@@ -76,15 +62,8 @@ pub struct SegmentRow {
 pub struct BorrowRow {
     pub path: Place,
     pub source: Uuid,
-    pub fin: Final,
+    pub fin: Option<Uuid>,
     pub ids: Window,
-}
-
-// The extractor's name, or none.
-#[derive(Clone, Copy)]
-pub enum Name {
-    Absent,
-    Named(Place),
 }
 
 // A manifest, with windows into the tables.
@@ -93,7 +72,7 @@ pub struct ManifestRow {
     pub initialized: bool,
     pub tree: TreeRow,
     pub segments: Window,
-    pub segment_extractor_name: Name,
+    pub segment_extractor_name: Option<Place>,
     pub next_wal_sst_id: u64,
     pub replay_after_wal_id: u64,
     pub last_l0_clock_tick: i64,
@@ -236,6 +215,7 @@ pub fn tell(x: Refusal) -> Told
 }
 
 // Document 01's limits, each number once.
+#[tactic(auto, unfolding(crate::specs::Limits::limits01))]
 pub fn limits_01() -> Limits
     ensures { result ≡ limits01 }
 {

@@ -1,10 +1,10 @@
 // What a row says. Row `i` is one of the table's; an unknown code reads as the last case, and the lawful check
 // refuses it.
 ghost use Rattle.std.specs.Prelude.{◌≡◌, ◌+◌, ◌*◌, ◌/◌, ◌≤◌, ◌<◌, length};
-ghost use Rattle.records.specs.Row.{place_at, window_at, bound_of, bound_at, last_at, visible_at, view_mark_at, sst_mark_at, final_at, view_at, run_at, tree_at, segment_at, borrow_at, id_at};
+ghost use Rattle.records.specs.Row.{place_at, window_at, bound_of, bound_at, last_at, visible_at, mark_at, view_at, run_at, tree_at, segment_at, borrow_at, id_at};
 
-use crate::{BorrowRow, Last, Place, RunRow, SegmentRow, TreeRow, ViewRow, Visible};
-use ids::{Final, SstId, SstMark, Uuid, ViewId, ViewMark};
+use crate::{BorrowRow, Place, RunRow, SegmentRow, TreeRow, ViewRow};
+use ids::{Id, SstId, Uuid, ViewId};
 use keys::{Bound, Range};
 use tables::{Window, ix};
 
@@ -48,63 +48,42 @@ pub fn bound_at(t: &[u64], b: usize) -> Bound
     bound_of(t[b], ix(t[b + 1]), ix(t[b + 2]))
 }
 
-fn last_at(t: &[u64], b: usize) -> Last
+fn last_at(t: &[u64], b: usize) -> Option<Place>
     requires { b + 3 ≤ length t.now }
     ensures { result ≡ last_at t.now b }
 {
     let p = place_at(t, b + 1);
     match t[b] {
-        0 => Last::Unknown,
-        _ => Last::Known(p),
+        0 => None,
+        _ => Some(p),
     }
 }
 
-fn visible_at(t: &[u64], b: usize) -> Visible
+fn visible_at(t: &[u64], b: usize) -> Option<Range>
     requires { b + 7 ≤ length t.now }
     ensures { result ≡ visible_at t.now b }
 {
     let start = bound_at(t, b + 1);
     let end = bound_at(t, b + 4);
     match t[b] {
-        0 => Visible::All,
-        _ => Visible::Only(Range { start, end }),
+        0 => None,
+        _ => Some(Range { start, end }),
     }
 }
 
-fn view_mark_at(t: &[u64], b: usize) -> ViewMark
+fn mark_at<I: Id>(t: &[u64], b: usize) -> Option<I>
     requires { b + 3 ≤ length t.now }
-    ensures { result ≡ view_mark_at t.now b }
+    ensures { result ≡ mark_at I.of t.now b }
 {
-    let x = ViewId(t[b + 1], t[b + 2]);
+    let x = I::of(t[b + 1], t[b + 2]);
     match t[b] {
-        0 => ViewMark::None,
-        _ => ViewMark::Some(x),
-    }
-}
-
-fn sst_mark_at(t: &[u64], b: usize) -> SstMark
-    requires { b + 3 ≤ length t.now }
-    ensures { result ≡ sst_mark_at t.now b }
-{
-    let x = SstId(t[b + 1], t[b + 2]);
-    match t[b] {
-        0 => SstMark::None,
-        _ => SstMark::Some(x),
-    }
-}
-
-fn final_at(t: &[u64], b: usize) -> Final
-    requires { b + 3 ≤ length t.now }
-    ensures { result ≡ final_at t.now b }
-{
-    let x = Uuid(t[b + 1], t[b + 2]);
-    match t[b] {
-        0 => Final::None,
-        _ => Final::Some(x),
+        0 => None,
+        _ => Some(x),
     }
 }
 
 // inner
+#[tactic(auto, unfolding(crate::specs::Row::view_at))]
 pub fn view_at(t: &[u64], i: usize) -> ViewRow
     requires { i < length t.now / 16 }
     ensures { result ≡ view_at t.now i }
@@ -120,6 +99,7 @@ pub fn view_at(t: &[u64], i: usize) -> ViewRow
 }
 
 // inner
+#[tactic(auto, unfolding(crate::specs::Row::run_at))]
 pub fn run_at(t: &[u64], i: usize) -> RunRow
     requires { i < length t.now / 3 }
     ensures { result ≡ run_at t.now i }
@@ -132,19 +112,21 @@ pub fn run_at(t: &[u64], i: usize) -> RunRow
 }
 
 // inner
+#[tactic(auto, unfolding(crate::specs::Row::tree_at))]
 pub fn tree_at(t: &[u64], b: usize) -> TreeRow
     requires { b + 10 ≤ length t.now }
     ensures { result ≡ tree_at t.now b }
 {
     TreeRow {
-        view: view_mark_at(t, b),
-        sst: sst_mark_at(t, b + 3),
+        view: mark_at(t, b),
+        sst: mark_at(t, b + 3),
         l0: window_at(t, b + 6),
         compacted: window_at(t, b + 8),
     }
 }
 
 // inner
+#[tactic(auto, unfolding(crate::specs::Row::segment_at))]
 pub fn segment_at(t: &[u64], i: usize) -> SegmentRow
     requires { i < length t.now / 12 }
     ensures { result ≡ segment_at t.now i }
@@ -157,6 +139,7 @@ pub fn segment_at(t: &[u64], i: usize) -> SegmentRow
 }
 
 // inner
+#[tactic(auto, unfolding(crate::specs::Row::borrow_at))]
 pub fn borrow_at(t: &[u64], i: usize) -> BorrowRow
     requires { i < length t.now / 9 }
     ensures { result ≡ borrow_at t.now i }
@@ -165,12 +148,13 @@ pub fn borrow_at(t: &[u64], i: usize) -> BorrowRow
     BorrowRow {
         path: place_at(t, b),
         source: Uuid(t[b + 2], t[b + 3]),
-        fin: final_at(t, b + 4),
+        fin: mark_at(t, b + 4),
         ids: window_at(t, b + 7),
     }
 }
 
 // inner
+#[tactic(auto, unfolding(crate::specs::Row::id_at))]
 pub fn id_at(t: &[u64], i: usize) -> SstId
     requires { i < length t.now / 2 }
     ensures { result ≡ id_at t.now i }

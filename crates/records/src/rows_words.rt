@@ -1,20 +1,25 @@
 // The words of a row.
 ghost use Rattle.std.specs.Prelude.{◌≡◌};
-ghost use Rattle.records.specs.Words.{bound_cell, last_cell, view_mark_cell, sst_mark_cell, final_cell, visible_cells, view_words, run_words, segment_words, borrow_words, id_words};
+ghost use Rattle.records.specs.Words.{bound_cell, last_cell, mark_cell, visible_cells, view_words, run_words, segment_words, borrow_words, id_words};
 
-use crate::{BorrowRow, Cell, Cells, Last, RunRow, SegmentRow, ViewRow, Visible};
-use ids::{Final, SstId, SstMark, ViewMark};
-use keys::Bound;
+use crate::{BorrowRow, Cell, Cells, Place, RunRow, SegmentRow, ViewRow};
+use ids::{Id, SstId};
+use keys::{Bound, Range};
 
-fn bound_cell(x: Bound) -> Cell
+// What is not there.
+const NOTHING: Cell = Cell {
+    code: 0,
+    a: 0,
+    b: 0,
+};
+
+// The words of a bound.
+// inner
+pub fn bound_cell(x: Bound) -> Cell
     ensures { result ≡ bound_cell x }
 {
     match x {
-        Bound::Unbounded => Cell {
-            code: 0,
-            a: 0,
-            b: 0,
-        },
+        Bound::Unbounded => NOTHING,
         Bound::Included(from, len) => Cell {
             code: 1,
             a: from as u64,
@@ -28,16 +33,12 @@ fn bound_cell(x: Bound) -> Cell
     }
 }
 
-fn last_cell(x: Last) -> Cell
+fn last_cell(x: Option<Place>) -> Cell
     ensures { result ≡ last_cell x }
 {
     match x {
-        Last::Unknown => Cell {
-            code: 0,
-            a: 0,
-            b: 0,
-        },
-        Last::Known(p) => Cell {
+        None => NOTHING,
+        Some(p) => Cell {
             code: 1,
             a: p.at as u64,
             b: p.len as u64,
@@ -45,94 +46,44 @@ fn last_cell(x: Last) -> Cell
     }
 }
 
-fn view_mark_cell(x: ViewMark) -> Cell
-    ensures { result ≡ view_mark_cell x }
+fn mark_cell<I: Id>(x: Option<I>) -> Cell
+    ensures { result ≡ mark_cell I.halves x }
 {
     match x {
-        ViewMark::None => Cell {
-            code: 0,
-            a: 0,
-            b: 0,
-        },
-        ViewMark::Some(i) => Cell {
-            code: 1,
-            a: i.0,
-            b: i.1,
-        },
+        None => NOTHING,
+        Some(i) => {
+            let (a, b) = i.halves();
+            Cell { code: 1, a, b }
+        }
     }
 }
 
-fn sst_mark_cell(x: SstMark) -> Cell
-    ensures { result ≡ sst_mark_cell x }
-{
-    match x {
-        SstMark::None => Cell {
-            code: 0,
-            a: 0,
-            b: 0,
-        },
-        SstMark::Some(i) => Cell {
-            code: 1,
-            a: i.0,
-            b: i.1,
-        },
-    }
-}
-
-fn final_cell(x: Final) -> Cell
-    ensures { result ≡ final_cell x }
-{
-    match x {
-        Final::None => Cell {
-            code: 0,
-            a: 0,
-            b: 0,
-        },
-        Final::Some(i) => Cell {
-            code: 1,
-            a: i.0,
-            b: i.1,
-        },
-    }
-}
-
-fn visible_cells(x: Visible) -> Cells
+fn visible_cells(x: Option<Range>) -> Cells
     ensures { result ≡ visible_cells x }
 {
     match x {
-        Visible::All => Cells {
+        None => Cells {
             code: 0,
-            start: Cell {
-                code: 0,
-                a: 0,
-                b: 0,
-            },
-            end: Cell {
-                code: 0,
-                a: 0,
-                b: 0,
-            },
+            start: NOTHING,
+            end: NOTHING,
         },
-        Visible::Only(r) => {
-            let s = r.start;
-            let e = r.end;
+        Some(r) => {
             Cells {
                 code: 1,
-                start: bound_cell(s),
-                end: bound_cell(e),
+                start: bound_cell(r.start),
+                end: bound_cell(r.end),
             }
         }
     }
 }
 
 // inner
+#[tactic(auto, unfolding(crate::specs::Words::view_words))]
 pub fn view_words(v: ViewRow) -> [u64; 16]
     ensures { result ≡ view_words v }
 {
-    let l = v.last;
-    let x = v.visible;
-    let last = last_cell(l);
-    let seen = visible_cells(x);
+    let last = last_cell(v.last);
+    let seen = visible_cells(v.visible);
     [
         v.id.0,
         v.id.1,
@@ -154,6 +105,7 @@ pub fn view_words(v: ViewRow) -> [u64; 16]
 }
 
 // inner
+#[tactic(auto, unfolding(crate::specs::Words::run_words))]
 pub fn run_words(r: RunRow) -> [u64; 3]
     ensures { result ≡ run_words r }
 {
@@ -161,14 +113,13 @@ pub fn run_words(r: RunRow) -> [u64; 3]
 }
 
 // inner
+#[tactic(auto, unfolding(crate::specs::Words::segment_words, crate::specs::Words::tree_words))]
 pub fn segment_words(s: SegmentRow) -> [u64; 12]
     ensures { result ≡ segment_words s }
 {
     let t = s.tree;
-    let v = t.view;
-    let x = t.sst;
-    let view = view_mark_cell(v);
-    let sst = sst_mark_cell(x);
+    let view = mark_cell(t.view);
+    let sst = mark_cell(t.sst);
     [
         s.prefix.at as u64,
         s.prefix.len as u64,
@@ -186,11 +137,11 @@ pub fn segment_words(s: SegmentRow) -> [u64; 12]
 }
 
 // inner
+#[tactic(auto, unfolding(crate::specs::Words::borrow_words))]
 pub fn borrow_words(b: BorrowRow) -> [u64; 9]
     ensures { result ≡ borrow_words b }
 {
-    let f = b.fin;
-    let fin = final_cell(f);
+    let fin = mark_cell(b.fin);
     [
         b.path.at as u64,
         b.path.len as u64,
@@ -205,6 +156,7 @@ pub fn borrow_words(b: BorrowRow) -> [u64; 9]
 }
 
 // inner
+#[tactic(auto, unfolding(crate::specs::Words::id_words))]
 pub fn id_words(x: SstId) -> [u64; 2]
     ensures { result ≡ id_words x }
 {

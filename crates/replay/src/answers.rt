@@ -18,15 +18,13 @@ fn put_bytes(rt: &impl Print, s: &[u8]) -> io::Result<()> {
 
 // A word of ids, which are two words each and joined with commas.
 fn put_word(rt: &impl Print, i: usize, x: u64) -> io::Result<()> {
-    if 0 < i {
-        if i % 2 == 0 {
-            print!(rt; ",")?;
-        }
+    if 0 < i && i % 2 == 0 {
+        print!(rt; ",")?;
     }
     print!(rt; "{x:016x}")
 }
 
-fn put_words(rt: &impl Print, s: &[u64]) -> io::Result<()> {
+fn put_ids(rt: &impl Print, s: &[u64]) -> io::Result<()> {
     for (i, x) in s.iter().enumerate() {
         put_word(rt, i, *x)?;
     }
@@ -35,15 +33,11 @@ fn put_words(rt: &impl Print, s: &[u64]) -> io::Result<()> {
 
 // So many ids of two words each.
 fn pairs(s: &[u64], n: usize) -> &[u64] {
-    if s.len() / 2 < n {
-        return s;
-    }
-    at_most(s, 2 * n)
+    at_most(s, n.saturating_mul(2))
 }
 
 fn put_looked(rt: &impl Print, a: Answer) -> io::Result<()> {
-    let kind = a.first;
-    match kind {
+    match a.first {
         0 => print!(rt; "unsegmented"),
         1 => put_number(rt, "segment ", a.second),
         _ => print!(rt; "absent"),
@@ -77,7 +71,7 @@ fn put_owned(rt: &impl Print, a: Answer, ids: &[u64]) -> io::Result<()> {
     if a.first == 0 {
         return print!(rt; ".");
     }
-    put_words(rt, pairs(ids, a.first))
+    put_ids(rt, pairs(ids, a.first))
 }
 
 // What an operation answered, with the bytes and the ids that it wrote.

@@ -11,10 +11,8 @@ mod parts;
 
 use answers::put_answer;
 use exports_forms::Answer;
-use parts::{
-    asked_of, fifth, first, fourth, front, id_of, number_at, numbers, second, six_numbers, third,
-    words,
-};
+use merge::Side;
+use parts::{asked_of, front, id_of, numbers, part_of, six_numbers, words};
 use std::io;
 use std::io::Read;
 
@@ -30,7 +28,7 @@ fn room() -> [u64; 6] {
 
 fn read(s: &[u8], out: &mut [u8]) -> Answer {
     exports::manifest_read(
-        first(s),
+        part_of(s, 0),
         &room(),
         &mut [0u64; 768],
         &mut [0u64; 8192],
@@ -43,8 +41,8 @@ fn read(s: &[u8], out: &mut [u8]) -> Answer {
 
 fn lookup(s: &[u8]) -> Answer {
     exports::manifest_lookup(
-        first(s),
-        second(s),
+        part_of(s, 0),
+        part_of(s, 1),
         &mut [0u64; 768],
         &mut [0u64; 8192],
         &mut [0u64; 384],
@@ -55,8 +53,8 @@ fn lookup(s: &[u8]) -> Answer {
 
 fn insert(s: &[u8], out: &mut [u8]) -> Answer {
     exports::manifest_insert(
-        first(s),
-        second(s),
+        part_of(s, 0),
+        part_of(s, 1),
         &room(),
         &mut [0u64; 768],
         &mut [0u64; 8192],
@@ -73,31 +71,11 @@ fn insert(s: &[u8], out: &mut [u8]) -> Answer {
     )
 }
 
-fn merge_from_writer(s: &[u8], out: &mut [u8]) -> Answer {
-    exports::manifest_merge_from_writer(
-        first(s),
-        second(s),
-        &room(),
-        &mut [0u64; 768],
-        &mut [0u64; 8192],
-        &mut [0u64; 384],
-        &mut [0u64; 288],
-        &mut [0u64; 1024],
-        &mut [0u64; 1536],
-        &mut [0u64; 16384],
-        &mut [0u64; 768],
-        &mut [0u64; 576],
-        &mut [0u64; 2048],
-        &mut [0u8; 16384],
-        &mut [0u8; 8192],
-        out,
-    )
-}
-
-fn merge_from_compactor(s: &[u8], out: &mut [u8]) -> Answer {
-    exports::manifest_merge_from_compactor(
-        first(s),
-        second(s),
+fn merge(side: Side, s: &[u8], out: &mut [u8]) -> Answer {
+    exports::manifest_merge(
+        side,
+        part_of(s, 0),
+        part_of(s, 1),
         &room(),
         &mut [0u64; 768],
         &mut [0u64; 8192],
@@ -117,9 +95,9 @@ fn merge_from_compactor(s: &[u8], out: &mut [u8]) -> Answer {
 
 fn select(s: &[u8]) -> Answer {
     exports::manifest_select(
-        first(s),
-        second(s),
-        &six_numbers(third(s)),
+        part_of(s, 0),
+        part_of(s, 1),
+        &six_numbers(part_of(s, 2)),
         &mut [0u64; 768],
         &mut [0u64; 8192],
         &mut [0u64; 384],
@@ -130,12 +108,12 @@ fn select(s: &[u8]) -> Answer {
 
 fn project(s: &[u8], out: &mut [u8]) -> Answer {
     let mut own = [0u64; 512];
-    let n = numbers(fifth(s), &mut own);
+    let n = numbers(part_of(s, 4), &mut own);
     exports::manifest_project(
-        first(s),
-        second(s),
-        &asked_of(third(s), fourth(s), fifth(s)),
-        &six_numbers(third(s)),
+        part_of(s, 0),
+        part_of(s, 1),
+        &asked_of(part_of(s, 2), part_of(s, 3), part_of(s, 4)),
+        &six_numbers(part_of(s, 2)),
         front(&own, n),
         &room(),
         &mut [0u64; 768],
@@ -157,7 +135,7 @@ fn project(s: &[u8], out: &mut [u8]) -> Answer {
 
 fn owned(s: &[u8], ids: &mut [u64]) -> Answer {
     exports::manifest_owned(
-        first(s),
+        part_of(s, 0),
         &mut [0u64; 768],
         &mut [0u64; 8192],
         &mut [0u64; 384],
@@ -169,11 +147,11 @@ fn owned(s: &[u8], ids: &mut [u64]) -> Answer {
 
 fn clone(s: &[u8], out: &mut [u8]) -> Answer {
     let mut fresh = [0u64; 512];
-    let n = words(fourth(s), &mut fresh);
+    let n = words(part_of(s, 3), &mut fresh);
     exports::manifest_clone(
-        first(s),
-        second(s),
-        &id_of(third(s)),
+        part_of(s, 0),
+        part_of(s, 1),
+        &id_of(part_of(s, 2)),
         front(&fresh, n),
         &room(),
         &mut [0u64; 768],
@@ -199,8 +177,8 @@ fn answer(operation: u8, s: &[u8], out: &mut [u8], ids: &mut [u64]) -> Answer {
         0 => read(s, out),
         1 => lookup(s),
         2 => insert(s, out),
-        3 => merge_from_writer(s, out),
-        4 => merge_from_compactor(s, out),
+        3 => merge(Side::Writer, s, out),
+        4 => merge(Side::Compactor, s, out),
         5 => select(s),
         6 => project(s, out),
         7 => owned(s, ids),
@@ -217,22 +195,21 @@ fn play(rt: &impl Print, operation: u8, s: &[u8]) -> io::Result<()> {
 }
 
 fn call(rt: &impl Print, s: &[u8]) -> io::Result<()> {
-    if 0 < s.len() {
-        play(rt, s[0], &s[1..])?;
+    match s {
+        [] => Ok(()),
+        [operation, behind @ ..] => play(rt, *operation, behind),
     }
-    Ok(())
 }
 
 fn calls(rt: &impl Print, s: &[u8]) -> io::Result<()> {
-    let mut at = 0;
-    while at < s.len() {
-        let n = 2 + number_at(s, at);
-        if s.len() - at < n {
+    let mut rest = s;
+    while let [high, low, behind @ ..] = rest {
+        let n = *high as usize * 256 + *low as usize;
+        if behind.len() < n {
             return Ok(());
         }
-        let end = at + n;
-        call(rt, first(&s[at..end]))?;
-        at = end;
+        call(rt, &behind[..n])?;
+        rest = &behind[n..];
     }
     Ok(())
 }

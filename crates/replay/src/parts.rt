@@ -27,7 +27,7 @@ pub fn first(s: &[u8]) -> &[u8] {
 }
 
 // What comes after the first part.
-pub fn rest(s: &[u8]) -> &[u8] {
+fn rest(s: &[u8]) -> &[u8] {
     let from = 2 + number_at(s, 0);
     if s.len() < from {
         return &s[0..0];
@@ -35,20 +35,13 @@ pub fn rest(s: &[u8]) -> &[u8] {
     &s[from..]
 }
 
-pub fn second(s: &[u8]) -> &[u8] {
-    first(rest(s))
-}
-
-pub fn third(s: &[u8]) -> &[u8] {
-    second(rest(s))
-}
-
-pub fn fourth(s: &[u8]) -> &[u8] {
-    third(rest(s))
-}
-
-pub fn fifth(s: &[u8]) -> &[u8] {
-    fourth(rest(s))
+// The part behind `k` others.
+pub fn part_of(s: &[u8], k: usize) -> &[u8] {
+    let mut from = s;
+    for _ in 0..k {
+        from = rest(from);
+    }
+    first(from)
 }
 
 // Six numbers of two bytes.
@@ -65,15 +58,13 @@ pub fn six_numbers(s: &[u8]) -> [u64; 6] {
 
 // As many numbers of two bytes as there are: how many.
 pub fn numbers(s: &[u8], to: &mut [u64; 512]) -> usize {
-    let mut i = 0;
-    while i < 512 {
+    for i in 0..512 {
         if s.len() <= 2 * i {
             return i;
         }
         to[i] = number_at(s, 2 * i) as u64;
-        i += 1;
     }
-    i
+    512
 }
 
 // Eight bytes as a number.
@@ -85,22 +76,17 @@ fn word_of(s: &[u8]) -> u64 {
 
 // As many numbers of eight bytes as there are: how many.
 pub fn words(s: &[u8], to: &mut [u64; 512]) -> usize {
-    let mut i = 0;
-    while i < 512 {
+    for i in 0..512 {
         if s.len() <= 8 * i {
             return i;
         }
         to[i] = word_of(part(s, 8 * i, 8));
-        i += 1;
     }
-    i
+    512
 }
 
 pub fn at_most(s: &[u64], n: usize) -> &[u64] {
-    if s.len() < n {
-        return s;
-    }
-    &s[0..n]
+    &s[..n.min(s.len())]
 }
 
 // The first words of a table.
@@ -115,10 +101,7 @@ pub fn id_of(s: &[u8]) -> [u64; 2] {
 
 // Whether a part has some byte.
 fn is_given(s: &[u8]) -> u64 {
-    if s.len() == 0 {
-        return 0;
-    }
-    1
+    !s.is_empty() as u64
 }
 
 // What a projection is asked for, by the parts of its global range, its filter and its own ranges.

@@ -7,14 +7,13 @@
 
 use exports_forms::Answer;
 use keys::part;
-use msgpack::{Bin, Skipped, Uint};
 use std::io;
 use std::io::Read;
 
 // The byte string behind `k` values; none where there is no such.
 fn item(s: &[u8], k: usize) -> &[u8] {
-    if let Skipped::Past(at) = msgpack::skip_many(s, 0, 0, k as u64) {
-        if let Bin::Is(from, len, _) = msgpack::bin_at(s, at) {
+    if let Ok(at) = msgpack::skip_many(s, 0, 0, k as u64) {
+        if let Ok((from, len, _)) = msgpack::bin_at(s, at) {
             return part(s, from, len);
         }
     }
@@ -24,14 +23,12 @@ fn item(s: &[u8], k: usize) -> &[u8] {
 // The numbers that stand one after the other in `s`, as many as there is room for.
 fn read_numbers(s: &[u8], to: &mut [u64; 512]) {
     let mut at = 0;
-    let mut i = 0;
-    while i < 512 {
-        let Uint::Is(x, next) = msgpack::uint_at(s, at, 18446744073709551615) else {
+    for i in 0..512 {
+        let Ok((x, next)) = msgpack::uint_at(s, at, 18446744073709551615) else {
             return;
         };
         to[i] = x;
         at = next;
-        i += 1;
     }
 }
 
@@ -118,14 +115,12 @@ fn play(rt: &impl Print, s: &[u8]) -> io::Result<()> {
 }
 
 fn calls(rt: &impl Print, s: &[u8]) -> io::Result<()> {
-    let mut i = 0;
-    while i < s.len() {
+    for i in 0..s.len() {
         let c = item(s, i);
         if c.len() == 0 {
             return Ok(());
         }
         play(rt, c)?;
-        i += 1;
     }
     Ok(())
 }

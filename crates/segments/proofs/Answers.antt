@@ -1,4 +1,5 @@
 -- What the arms of the code know. Assumes nothing.
+use Rattle.std.specs.Prelude.{Err, Ok, Result}
 use Prim.Native.Nat.{ℕ, zero, suc, ◌+◌, ◌/◌, ◌≤◌, ◌<◌}
 use mathlib.Core.Path.{◌≡◌, refl, sym, ap, ◌∙◌}
 use mathlib.Core.Bool.{Bool, true, false, not}
@@ -14,9 +15,7 @@ use Rattle.keys.specs.Pick.{pick}
 use Rattle.keys.specs.declared.Bound.{Bound}
 use Rattle.keys.specs.declared.Bound.TheVariants.{Unbounded, Included, Excluded}
 use Rattle.keys.specs.declared.Range.{Range}
-use Rattle.keys.specs.declared.Order.{Order}
-use Rattle.keys.specs.declared.Order.TheVariants.{Less, Equal, Greater}
-use Rattle.keys.specs.Key.{order_of, UpTo}
+use Rattle.keys.specs.Key.{UpTo}
 use Rattle.keys.specs.Prefix.{Bytes, Begins, Under, under_of, after}
 use Rattle.keys.specs.Range.{low, top, empty_of}
 use Rattle.keys.specs.Pool.{part_of, edge_of, edges_of, inside_of}
@@ -38,17 +37,16 @@ use Rattle.records.specs.declared.ManifestRow.{ManifestRow}
 use Rattle.records.specs.declared.Refusal.TheVariants.{Unlawful, OverLimit, EmptyRange}
 use Rattle.lawful.specs.Judge.{judged_of}
 use Rattle.lawful.specs.Steps.{prefix_at}
-use Rattle.lawful.specs.declared.Judged.{Judged}
-use Rattle.lawful.specs.declared.Judged.TheVariants.{Lawful, Breaks}
 use Rattle.segments.specs.Prefixes.{prefixes, prefixes_in}
 use Rattle.segments.specs.Refuses.{long_of, bound_over, range_over}
 use Rattle.segments.specs.Lookup.{same_of, index_of, segment_of, tree_for, looked_of}
 use Rattle.segments.specs.Select.{before, reached, first_of, past_of, chosen_of, selected_of}
 use Rattle.segments.proofs.Fronts.{Led, led_none}
-use Rattle.segments.specs.declared.Looked.{Looked}
 use Rattle.segments.specs.declared.Looked.TheVariants as look
-use Rattle.segments.specs.declared.Selected.{Selected}
 use Rattle.segments.specs.declared.Selected.TheVariants as select
+use Rattle.segments.specs.declared.Looked.{Looked}
+use Rattle.records.specs.declared.Refusal.{Refusal}
+use Rattle.segments.specs.declared.Selected.{Selected}
 
 -- ---- the prefixes of a manifest in tables
 prefixes_up_to : (g : ℕ → Segment) (n : ℕ) → prefixes (up_to g n) ≡ up_to (λ k. (g k).prefix) n
@@ -68,27 +66,6 @@ unfolding prefixes_in
 in_length segments pool w = up_to_length (λ k. prefix_at segments pool (w.first + k)) (held_of w (length segments / 12))
 
 -- ---- a row's prefix
-module _ (segments pool : List ℕ) (i : ℕ) (s : SegmentRow) (p : List ℕ) (o : Order) (a : List ℕ) (at : s ≡ segment_at segments i) (f : a ≡ bytes_in pool s.prefix) (e : o ≡ order_of a p) where
-  is : order_of (prefix_at segments pool i) p ≡ o
-  is = rw (← at, ← f) (sym e)
-
-  pub other_less : o ≡ Less → true ≡ not (same_of (prefix_at segments pool i) p)
-  other_less h = rw (is ∙ h)
-
-  pub other_equal : o ≡ Equal → false ≡ not (same_of (prefix_at segments pool i) p)
-  other_equal h = rw (is ∙ h)
-
-  pub other_greater : o ≡ Greater → true ≡ not (same_of (prefix_at segments pool i) p)
-  other_greater h = rw (is ∙ h)
-
-pub ruleset others = (other_less, other_equal, other_greater)
-
-pub before_at : (segments pool args : List ℕ) (i : ℕ) (s : SegmentRow) (b : Bound) (a : List ℕ) (r : Bool) → s ≡ segment_at segments i → a ≡ bytes_in pool s.prefix
-    → r ≡ under_of (low (edge_of args b)) (after a) → not r ≡ before (edge_of args b) (prefix_at segments pool i)
-before_at segments pool args i s b a r at f e =
-    let h : r ≡ under_of (low (edge_of args b)) (after (prefix_at segments pool i)) = rw (← at, ← f) e in
-    ap not h
-
 pub reached_at : (segments pool args : List ℕ) (i : ℕ) (s : SegmentRow) (b : Bound) (r : Bool) → s ≡ segment_at segments i
     → r ≡ empty_of (edge_of pool (Included s.prefix.at s.prefix.len)) (edge_of args b) → not r ≡ reached (edge_of args b) (prefix_at segments pool i)
 unfolding empty_of
@@ -156,11 +133,11 @@ pub ruleset overs = (long_free, long_included, long_excluded, over_long, over_in
 
 -- ---- lookup
 module _ (segments pool : List ℕ) (w : Window) (p : List ℕ) where
-  pub tree_none : length p ≡ 0 → look.Unsegmented ≡ tree_for (prefixes_in segments pool w) p
+  pub tree_none : length p ≡ 0 → Ok look.Unsegmented ≡ tree_for (prefixes_in segments pool w) p
   unfolding tree_for
   tree_none h = go p h
     where
-      go : (p : List ℕ) → length p ≡ 0 → look.Unsegmented ≡ tree_for (prefixes_in segments pool w) p
+      go : (p : List ℕ) → length p ≡ 0 → Ok look.Unsegmented ≡ tree_for (prefixes_in segments pool w) p
       go [] h = refl
       go (x ∷ p) h = absurd (omega arith)
 
@@ -173,25 +150,25 @@ module _ (segments pool : List ℕ) (w : Window) (p : List ℕ) where
       go (x ∷ p) h = refl
 
   module _ (n i : ℕ) (h : length p ≡ 0 → ⊥) (e : n ≡ held_of w (length segments / 12)) (f : i ≡ index_of (prefixes_in segments pool w) p) where
-    pub tree_at_lem : i < n → look.Segment i ≡ tree_for (prefixes_in segments pool w) p
+    pub tree_at_lem : i < n → Ok (look.Segment i) ≡ tree_for (prefixes_in segments pool w) p
     tree_at_lem l = sym (tree_some h ∙ rw (in_length segments pool w, ← e, ← f, lt-ltb i n l))
 
-    pub tree_absent : n ≤ i → look.Absent ≡ tree_for (prefixes_in segments pool w) p
+    pub tree_absent : n ≤ i → Ok look.Absent ≡ tree_for (prefixes_in segments pool w) p
     tree_absent l = sym (tree_some h ∙ rw (in_length segments pool w, ← e, ← f, le-ltb i n l))
 
 pub ruleset trees = (tree_none, tree_at_lem, tree_absent)
 
 module _ (lim : Limits) (l : Lent) (m : ManifestRow) (p : List ℕ) where
-  pub looked_over : lim.prefix < length p → look.Refused OverLimit ≡ looked_of lim l m p
+  pub looked_over : lim.prefix < length p → Err OverLimit ≡ looked_of lim l m p
   unfolding looked_of
   looked_over h = rw (lt-ltb lim.prefix (length p) h)
 
-  module _ (j : Judged) (e : j ≡ judged_of lim l m) (h : length p ≤ lim.prefix) where
-    pub looked_broken : (rule : ℕ) → j ≡ Breaks rule → look.Refused (Unlawful rule) ≡ looked_of lim l m p
+  module _ (j : Result Unit ℕ) (e : j ≡ judged_of lim l m) (h : length p ≤ lim.prefix) where
+    pub looked_broken : (rule : ℕ) → j ≡ Err rule → Err (Unlawful rule) ≡ looked_of lim l m p
     unfolding looked_of
     looked_broken rule t = rw (le-ltb lim.prefix (length p) h, sym e ∙ t)
 
-    pub looked_tree : (a : Looked) → j ≡ Lawful → a ≡ tree_for (prefixes_in l.segments l.pool m.segments) p → a ≡ looked_of lim l m p
+    pub looked_tree : (a : Result Looked Refusal) → j ≡ Ok tt → a ≡ tree_for (prefixes_in l.segments l.pool m.segments) p → a ≡ looked_of lim l m p
     unfolding looked_of
     looked_tree a t q = rw (le-ltb lim.prefix (length p) h, sym e ∙ t, prefixes_in_lem l m) q
 
@@ -199,43 +176,43 @@ pub ruleset lookups = (looked_over, looked_broken, looked_tree)
 
 -- ---- selection
 module _ (segments pool : List ℕ) (w : Window) (args : List ℕ) (r : Range) (n : ℕ) (e : n ≡ held_of w (length segments / 12)) where
-  pub choose_none : n ≡ 0 → select.Unsegmented ≡ chosen_of (edges_of args r) (prefixes_in segments pool w)
+  pub choose_none : n ≡ 0 → Ok select.Unsegmented ≡ chosen_of (edges_of args r) (prefixes_in segments pool w)
   unfolding chosen_of prefixes_in
   choose_none h = rw (sym e ∙ h)
 
-  choose_some : (n ≡ 0 → ⊥) → chosen_of (edges_of args r) (prefixes_in segments pool w) ≡ pick (ltb (first_of (edge_of args r.start) (prefixes_in segments pool w)) (past_of (edge_of args r.end) (prefixes_in segments pool w))) (select.Window (first_of (edge_of args r.start) (prefixes_in segments pool w)) (past_of (edge_of args r.end) (prefixes_in segments pool w))) (select.Window 0 0)
+  choose_some : (n ≡ 0 → ⊥) → chosen_of (edges_of args r) (prefixes_in segments pool w) ≡ pick (ltb (first_of (edge_of args r.start) (prefixes_in segments pool w)) (past_of (edge_of args r.end) (prefixes_in segments pool w))) (Ok (select.Window (first_of (edge_of args r.start) (prefixes_in segments pool w)) (past_of (edge_of args r.end) (prefixes_in segments pool w)))) (Ok (select.Window 0 0))
   unfolding chosen_of
   choose_some h = go (prefixes_in segments pool w) (in_length segments pool w)
     where
-      go : (ps : List (List ℕ)) → length ps ≡ held_of w (length segments / 12) → chosen_of (edges_of args r) ps ≡ pick (ltb (first_of (edge_of args r.start) ps) (past_of (edge_of args r.end) ps)) (select.Window (first_of (edge_of args r.start) ps) (past_of (edge_of args r.end) ps)) (select.Window 0 0)
+      go : (ps : List (List ℕ)) → length ps ≡ held_of w (length segments / 12) → chosen_of (edges_of args r) ps ≡ pick (ltb (first_of (edge_of args r.start) ps) (past_of (edge_of args r.end) ps)) (Ok (select.Window (first_of (edge_of args r.start) ps) (past_of (edge_of args r.end) ps))) (Ok (select.Window 0 0))
       go [] l = absurd (h (e ∙ sym l))
       go (p ∷ ps) l = refl
 
   module _ (i j : ℕ) (h : n ≡ 0 → ⊥) (f : i ≡ first_of (edge_of args r.start) (prefixes_in segments pool w)) (g : j ≡ past_of (edge_of args r.end) (prefixes_in segments pool w)) where
-    pub choose_window : i < j → select.Window i j ≡ chosen_of (edges_of args r) (prefixes_in segments pool w)
+    pub choose_window : i < j → Ok (select.Window i j) ≡ chosen_of (edges_of args r) (prefixes_in segments pool w)
     choose_window l = sym (choose_some h ∙ rw (← f, ← g, lt-ltb i j l))
 
-    pub choose_nothing : j ≤ i → select.Window 0 0 ≡ chosen_of (edges_of args r) (prefixes_in segments pool w)
+    pub choose_nothing : j ≤ i → Ok (select.Window 0 0) ≡ chosen_of (edges_of args r) (prefixes_in segments pool w)
     choose_nothing l = sym (choose_some h ∙ rw (← f, ← g, le-ltb i j l))
 
 pub ruleset chooses = (choose_none, choose_window, choose_nothing)
 
 module _ (lim : Limits) (l : Lent) (m : ManifestRow) (args : List ℕ) (r : Range) (o : Bool) (d : o ≡ range_over lim.key (length args) r) where
-  pub select_over : o ≡ true → select.Refused OverLimit ≡ selected_of lim l m args r
+  pub select_over : o ≡ true → Err OverLimit ≡ selected_of lim l m args r
   unfolding selected_of
   select_over h = rw (sym d ∙ h)
 
-  module _ (j : Judged) (h : o ≡ false) (e : j ≡ judged_of lim l m) where
-    pub select_broken : (rule : ℕ) → j ≡ Breaks rule → select.Refused (Unlawful rule) ≡ selected_of lim l m args r
+  module _ (j : Result Unit ℕ) (h : o ≡ false) (e : j ≡ judged_of lim l m) where
+    pub select_broken : (rule : ℕ) → j ≡ Err rule → Err (Unlawful rule) ≡ selected_of lim l m args r
     unfolding selected_of
     select_broken rule t = rw (sym d ∙ h, sym e ∙ t)
 
-    module _ (q : Bool) (t : j ≡ Lawful) (f : q ≡ empty_of (edge_of args r.start) (edge_of args r.end)) where
-      pub select_empty : q ≡ true → select.Refused EmptyRange ≡ selected_of lim l m args r
+    module _ (q : Bool) (t : j ≡ Ok tt) (f : q ≡ empty_of (edge_of args r.start) (edge_of args r.end)) where
+      pub select_empty : q ≡ true → Err EmptyRange ≡ selected_of lim l m args r
       unfolding selected_of
       select_empty u = rw (sym d ∙ h, sym e ∙ t, sym f ∙ u)
 
-      pub select_chosen : (a : Selected) → q ≡ false → a ≡ chosen_of (edges_of args r) (prefixes_in l.segments l.pool m.segments) → a ≡ selected_of lim l m args r
+      pub select_chosen : (a : Result Selected Refusal) → q ≡ false → a ≡ chosen_of (edges_of args r) (prefixes_in l.segments l.pool m.segments) → a ≡ selected_of lim l m args r
       unfolding selected_of
       select_chosen a u g = rw (sym d ∙ h, sym e ∙ t, sym f ∙ u, prefixes_in_lem l m) g
 

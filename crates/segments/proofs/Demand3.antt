@@ -1,4 +1,5 @@
 -- DEMAND 3, selection: the window is exactly the segments with some key of the range that begins with their prefix.
+use Rattle.std.specs.Prelude.{Err, Ok, Result}
 use Prim.Native.Nat.{ℕ, zero, suc, ◌+◌, ◌/◌, ◌≤◌, ◌<◌, suc-le-suc}
 use mathlib.Core.Path.{◌≡◌, refl, sym, ap, ◌∙◌}
 use mathlib.Core.Bool.{Bool, true, false, not, ◌&&◌, true≢false}
@@ -26,7 +27,6 @@ use Rattle.records.specs.Decode.{Lent, manifest_in}
 use Rattle.records.specs.declared.Limits.{Limits}
 use Rattle.records.specs.declared.ManifestRow.{ManifestRow}
 use Rattle.lawful.specs.Judge.{judged_of}
-use Rattle.lawful.specs.declared.Judged.TheVariants.{Lawful, Breaks}
 use Rattle.lawful.specs.Law.{l2_of, l3_of, l4_of, l5_of}
 use Rattle.lawful.specs.Steps.{prefix_at}
 use Rattle.lawful.proofs.Apart.{Apart, apart_of_lem}
@@ -129,7 +129,7 @@ module _ (ps : List (List ℕ)) (far : Apart (length ps) (λ i. prefix_of ps i))
   window_holds : (i : ℕ) → i < length ps → Meets r (prefix_of ps i) ↔ Holds i (window_of (first_of r.start ps) (past_of r.end ps))
   window_holds i h = go (says_lt (first_of r.start ps) (past_of r.end ps))
     where
-      go : {b : Bool} → Says (first_of r.start ps < past_of r.end ps) b → Meets r (prefix_of ps i) ↔ Holds i (pick b (Window (first_of r.start ps) (past_of r.end ps)) (Window 0 0))
+      go : {b : Bool} → Says (first_of r.start ps < past_of r.end ps) b → Meets r (prefix_of ps i) ↔ Holds i (pick b (Ok (Window (first_of r.start ps) (past_of r.end ps))) (Ok (Window 0 0)))
       go (holds l) = window_law i h
       go (fails n) = (λ m. let v = (window_law i h).0 m in absurd (n (omega arith)), λ v. absurd (omega arith))
 
@@ -180,14 +180,14 @@ pub record Keeps (lim : Limits) (l : Lent) (m : ManifestRow) : Type 0 where
   pub fourth : l4_of (manifest_in l m) ≡ true
   pub fifth : l5_of (manifest_in l m) ≡ true
 
-pub lawful_keeps : (lim : Limits) (l : Lent) (m : ManifestRow) → judged_of lim l m ≡ Lawful → Keeps lim l m
+pub lawful_keeps : (lim : Limits) (l : Lent) (m : ManifestRow) → judged_of lim l m ≡ Ok tt → Keeps lim l m
 unfolding judged_of
 lawful_keeps lim l m h =
     let w = go (l1_of lim l m) (l2_of (manifest_in l m)) (l3_of (manifest_in l m)) (l4_of (manifest_in l m)) (l5_of (manifest_in l m)) h in
     record { first = w.0; second = w.1.0; third = w.1.1.0; fourth = w.1.1.1.0; fifth = w.1.1.1.1 }
   where
     go : (a b c d e : Bool)
-        → pick (not a) (Breaks 1) (pick (not b) (Breaks 2) (pick (not c) (Breaks 3) (pick (not d) (Breaks 4) (pick (not e) (Breaks 5) Lawful)))) ≡ Lawful
+        → pick {A = Result Unit ℕ} (not a) (Err 1) (pick {A = Result Unit ℕ} (not b) (Err 2) (pick {A = Result Unit ℕ} (not c) (Err 3) (pick {A = Result Unit ℕ} (not d) (Err 4) (pick {A = Result Unit ℕ} (not e) (Err 5) (Ok tt))))) ≡ Ok tt
         → (a ≡ true) × ((b ≡ true) × ((c ≡ true) × ((d ≡ true) × (e ≡ true))))
     go true true true true true h = (refl, (refl, (refl, (refl, refl))))
     go true true true true false h = absurd (true≢false (ap is_broken h))
@@ -211,7 +211,7 @@ bytes_in_lem l m b i = rw (prefixes_in_lem l m) (bytes_at (λ k. prefix_at l.seg
 -- segments.
 pub selection :
     (lim : Limits) (l : Lent) (m : ManifestRow) (args : List ℕ) (r : Range) → Bytes l.pool → Bytes args
-    → judged_of lim l m ≡ Lawful → range_over lim.key (length args) r ≡ false
+    → judged_of lim l m ≡ Ok tt → range_over lim.key (length args) r ≡ false
     → (k : List ℕ) → Bytes k → In k (edges_of args r)
     → (i : ℕ) → i < length (prefixes (manifest_in l m).segments)
     → Meets (edges_of args r) (prefix_of (prefixes (manifest_in l m).segments) i) ↔ Holds i (selected_of lim l m args r)

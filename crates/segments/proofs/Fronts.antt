@@ -44,7 +44,7 @@ module _ (x : ℕ) (p : ℕ → Bool) (n k : ℕ) (w : Led x p n k) where
     pub led_here : r ≡ false → k ≡ x
     led_here t = lead_stop p n k h w.passed (sym e ∙ t) ∙ sym w.says
 
-  pub led_all : n ≤ k → k ≡ x
-  led_all h = let e : k ≡ n = omega (arith, w.within) in e ∙ lead_all p n (rw e at w.passed) ∙ sym w.says
+  pub led_all : n ≤ k → n ≡ x
+  led_all h = let e : k ≡ n = omega (arith, w.within) in lead_all p n (rw e at w.passed) ∙ sym w.says
 
 pub ruleset leads = (led_more, led_here, led_all)

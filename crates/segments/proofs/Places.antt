@@ -10,9 +10,6 @@ use Rattle.keys.proofs.Says.{says_true, says_false, true_says, false_says}
 use Rattle.keys.proofs.ByteOrder.{below_trans, says_less}
 use Rattle.tables.specs.Window.{held_of}
 use Rattle.tables.specs.declared.Window.{Window}
-use Rattle.records.specs.Row.{segment_at}
-use Rattle.records.specs.Decode.{bytes_in}
-use Rattle.records.specs.declared.SegmentRow.{SegmentRow}
 use Rattle.measure.specs.Tests.{all_of, chain, pairs}
 use Rattle.lawful.specs.Steps.{prefix_at}
 use Rattle.lawful.proofs.Pairs.{chain_pairs}
@@ -58,7 +55,3 @@ pub place_none :
     → Led (place_of (prefixes_in segments pool w) p) (λ i. less_of (prefix_at segments pool (w.first + i)) p) n 0
 unfolding prefixes_in
 place_none segments pool w p n e h = led_none (λ q. less_of q p) (λ k. prefix_at segments pool (w.first + k)) _ n _ e (place_leads (prefixes_in segments pool w) p h)
-
-pub under_at : (segments pool : List ℕ) (i : ℕ) (s : SegmentRow) (p a : List ℕ) (r : Bool) → s ≡ segment_at segments i → a ≡ bytes_in pool s.prefix
-    → r ≡ less_of a p → r ≡ less_of (prefix_at segments pool i) p
-under_at segments pool i s p a r at f e = rw (← at, ← f) e

@@ -1,5 +1,5 @@
 -- When the refusals 1, 2 and 5 are given.
-use Rattle.std.specs.Prelude.{ℕ, Bool, true, false, not, ◌||◌, List, ltb, length}
+use Rattle.std.specs.Prelude.{ℕ, Bool, true, false, not, ◌||◌, List, ltb, length, Err, Ok, Result}
 use Rattle.keys.specs.Range.{Edges, empty_of}
 use Rattle.keys.specs.Pool.{inside_of}
 use Rattle.keys.specs.declared.Bound.{Bound}
@@ -9,8 +9,6 @@ use Rattle.records.specs.Decode.{Lent}
 use Rattle.records.specs.declared.Limits.{Limits}
 use Rattle.records.specs.declared.ManifestRow.{ManifestRow}
 use Rattle.lawful.specs.Judge.{judged_of}
-use Rattle.lawful.specs.declared.Judged.{Judged}
-use Rattle.lawful.specs.declared.Judged.TheVariants.{Lawful, Breaks}
 
 -- a bound's key is of more than `most` bytes
 abbrev pub long_of : ℕ → Bound → Bool
@@ -31,13 +29,13 @@ abbrev pub prefix_over : Limits → List ℕ → Bool
 prefix_over lim p = ltb lim.prefix (length p)
 
 -- "1 | a manifest breaks L1..L5 | first broken rule's number"
-abbrev pub is_broken : Judged → Bool
-is_broken Lawful = false
-is_broken (Breaks rule) = true
+abbrev pub is_broken : Result Unit ℕ → Bool
+is_broken (Ok _) = false
+is_broken (Err rule) = true
 
-abbrev pub rule_of : Judged → ℕ
-rule_of Lawful = 0
-rule_of (Breaks rule) = rule
+abbrev pub rule_of : Result Unit ℕ → ℕ
+rule_of (Ok _) = 0
+rule_of (Err rule) = rule
 
 abbrev pub refuses1 : Limits → Lent → ManifestRow → Bool
 refuses1 lim l m = is_broken (judged_of lim l m)

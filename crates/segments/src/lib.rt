@@ -15,10 +15,9 @@ ghost use Rattle.segments.specs.Lookup.{same_of, index_of, tree_for, looked_of};
 ghost use Rattle.segments.specs.Select.{before, reached, first_of, past_of, chosen_of, selected_of};
 
 use keys::{
-    Bound, Order, Range, below_successor, compare, is_empty, is_empty_between, is_inside, is_less,
-    part,
+    Bound, Range, below_successor, compare, is_empty, is_empty_between, is_inside, is_less, part,
 };
-use lawful::{Judged, lawful};
+use lawful::lawful;
 use records::{Limits, ManifestRow, Refusal, segment_at};
 use tables::{Window, held};
 
@@ -28,7 +27,6 @@ pub enum Looked {
     Unsegmented,
     Segment(usize),
     Absent,
-    Refused(Refusal),
 }
 
 // What a selection answers: the window counts from the manifest's own first segment.
@@ -36,10 +34,20 @@ pub enum Looked {
 pub enum Selected {
     Unsegmented,
     Window(usize, usize),
-    Refused(Refusal),
 }
 
 // ---- lookup
+
+// The prefix of row `i`.
+// inner
+pub fn prefix_at<'a>(segments: &[u64], pool: &'a [u8], i: usize) -> &'a [u8]
+    requires { i < length segments.now / 12 }
+    ensures { result.now ≡ prefix_at segments.now pool.now i }
+{
+    let s = segment_at(segments, i);
+    let p = s.prefix;
+    part(pool, p.at, p.len)
+}
 
 // Whether the prefix of row `i` is another than `prefix`.
 // inner
@@ -47,42 +55,35 @@ pub fn is_other(segments: &[u64], pool: &[u8], i: usize, prefix: &[u8]) -> bool
     requires { i < length segments.now / 12 }
     ensures { result ≡ not (same_of (prefix_at segments.now pool.now i) prefix.now) }
 {
-    let s = segment_at(segments, i);
-    let p = s.prefix;
-    match compare(part(pool, p.at, p.len), prefix) {
-        Order::Less => true,
-        Order::Equal => false,
-        Order::Greater => true,
-    }
+    compare(prefix_at(segments, pool, i), prefix).is_ne()
 }
 
 // The place of the first segment that has this prefix, or the number of all.
-fn index_of(segments: &[u64], pool: &[u8], w: Window, prefix: &[u8]) -> usize
+// inner
+pub fn index_of(segments: &[u64], pool: &[u8], w: Window, prefix: &[u8]) -> usize
     ensures { result ≡ index_of (prefixes_in segments.now pool.now w) prefix.now }
 {
     let n = held(w, segments.len() / 12);
-    let mut k = 0;
-    while k < n {
+    for k in 0..n {
         if !is_other(segments, pool, w.first + k, prefix) {
             return k;
         }
-        k += 1;
     }
-    k
+    n
 }
 
-fn tree_of(segments: &[u64], pool: &[u8], w: Window, prefix: &[u8]) -> Looked
+fn tree_of(segments: &[u64], pool: &[u8], w: Window, prefix: &[u8]) -> Result<Looked, Refusal>
     ensures { result ≡ tree_for (prefixes_in segments.now pool.now w) prefix.now }
 {
     if prefix.len() == 0 {
-        return Looked::Unsegmented;
+        return Ok(Looked::Unsegmented);
     }
     let n = held(w, segments.len() / 12);
     let i = index_of(segments, pool, w, prefix);
     if i < n {
-        return Looked::Segment(i);
+        return Ok(Looked::Segment(i));
     }
-    Looked::Absent
+    Ok(Looked::Absent)
 }
 
 // The segment with this prefix; the empty prefix is that of the unsegmented tree.
@@ -96,18 +97,18 @@ pub fn tree_for_segment(
     pool: &[u8],
     m: ManifestRow,
     prefix: &[u8],
-) -> Looked
+) -> Result<Looked, Refusal>
     ensures { result ≡ looked_of lim (record { segments = segments.now; views = views.now; runs = runs.now; borrows = borrows.now; ids = ids.now; pool = pool.now }) m prefix.now }
 {
     if lim.prefix < prefix.len() {
-        return Looked::Refused(Refusal::OverLimit);
+        return Err(Refusal::OverLimit);
     }
     match lawful(lim, segments, views, runs, borrows, ids, pool, m) {
-        Judged::Lawful => {
+        Ok(()) => {
             let w = m.segments;
             tree_of(segments, pool, w, prefix)
         }
-        Judged::Breaks(rule) => Looked::Refused(Refusal::Unlawful(rule)),
+        Err(rule) => Err(Refusal::Unlawful(rule)),
     }
 }
 
@@ -117,9 +118,7 @@ fn is_under(segments: &[u64], pool: &[u8], i: usize, prefix: &[u8]) -> bool
     requires { i < length segments.now / 12 }
     ensures { result ≡ less_of (prefix_at segments.now pool.now i) prefix.now }
 {
-    let s = segment_at(segments, i);
-    let p = s.prefix;
-    is_less(part(pool, p.at, p.len), prefix)
+    is_less(prefix_at(segments, pool, i), prefix)
 }
 
 // How many of the prefixes, which ascend, are below `prefix`.
@@ -129,14 +128,12 @@ pub fn find_place(segments: &[u64], pool: &[u8], w: Window, prefix: &[u8]) -> us
     ensures { result ≡ place_of (prefixes_in segments.now pool.now w) prefix.now }
 {
     let n = held(w, segments.len() / 12);
-    let mut k = 0;
-    while k < n {
+    for k in 0..n {
         if !is_under(segments, pool, w.first + k, prefix) {
             return k;
         }
-        k += 1;
     }
-    k
+    n
 }
 
 // ---- selection
@@ -189,9 +186,7 @@ fn is_before(segments: &[u64], pool: &[u8], i: usize, args: &[u8], s: Bound) -> 
     requires { i < length segments.now / 12 }
     ensures { result ≡ before (edge_of args.now s) (prefix_at segments.now pool.now i) }
 {
-    let row = segment_at(segments, i);
-    let p = row.prefix;
-    !start_leaves(args, s, part(pool, p.at, p.len))
+    !start_leaves(args, s, prefix_at(segments, pool, i))
 }
 
 fn is_reached(segments: &[u64], pool: &[u8], i: usize, args: &[u8], e: Bound) -> bool
@@ -208,14 +203,12 @@ fn first_of(segments: &[u64], pool: &[u8], w: Window, args: &[u8], s: Bound) -> 
     ensures { result ≡ first_of (edge_of args.now s) (prefixes_in segments.now pool.now w) }
 {
     let n = held(w, segments.len() / 12);
-    let mut k = 0;
-    while k < n {
+    for k in 0..n {
         if !is_before(segments, pool, w.first + k, args, s) {
             return k;
         }
-        k += 1;
     }
-    k
+    n
 }
 
 // How many segments at the front the end reaches.
@@ -223,14 +216,12 @@ fn past_of(segments: &[u64], pool: &[u8], w: Window, args: &[u8], e: Bound) -> u
     ensures { result ≡ past_of (edge_of args.now e) (prefixes_in segments.now pool.now w) }
 {
     let n = held(w, segments.len() / 12);
-    let mut k = 0;
-    while k < n {
+    for k in 0..n {
         if !is_reached(segments, pool, w.first + k, args, e) {
             return k;
         }
-        k += 1;
     }
-    k
+    n
 }
 
 // The window of the segments that the range holds a key of.
@@ -240,20 +231,20 @@ fn overlapping_segment_indices(
     w: Window,
     args: &[u8],
     r: Range,
-) -> Selected
+) -> Result<Selected, Refusal>
     ensures { result ≡ chosen_of (edges_of args.now r) (prefixes_in segments.now pool.now w) }
 {
     if held(w, segments.len() / 12) == 0 {
-        return Selected::Unsegmented;
+        return Ok(Selected::Unsegmented);
     }
     let s = r.start;
     let e = r.end;
     let first = first_of(segments, pool, w, args, s);
     let past = past_of(segments, pool, w, args, e);
     if first < past {
-        return Selected::Window(first, past);
+        return Ok(Selected::Window(first, past));
     }
-    Selected::Window(0, 0)
+    Ok(Selected::Window(0, 0))
 }
 
 // The segments with some key in the range.
@@ -268,20 +259,20 @@ pub fn select_segments(
     m: ManifestRow,
     args: &[u8],
     r: Range,
-) -> Selected
+) -> Result<Selected, Refusal>
     ensures { result ≡ selected_of lim (record { segments = segments.now; views = views.now; runs = runs.now; borrows = borrows.now; ids = ids.now; pool = pool.now }) m args.now r }
 {
     if range_over(lim.key, args.len(), r) {
-        return Selected::Refused(Refusal::OverLimit);
+        return Err(Refusal::OverLimit);
     }
     match lawful(lim, segments, views, runs, borrows, ids, pool, m) {
-        Judged::Lawful => {
+        Ok(()) => {
             if is_empty(args, r) {
-                return Selected::Refused(Refusal::EmptyRange);
+                return Err(Refusal::EmptyRange);
             }
             let w = m.segments;
             overlapping_segment_indices(segments, pool, w, args, r)
         }
-        Judged::Breaks(rule) => Selected::Refused(Refusal::Unlawful(rule)),
+        Err(rule) => Err(Refusal::Unlawful(rule)),
     }
 }

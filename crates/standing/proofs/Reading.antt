@@ -1,4 +1,5 @@
 -- WHAT READING BEHIND A CURSOR LEAVES: the manifest that the bytes are stands there, accepted, or nothing changed. Assumes nothing.
+use Rattle.std.specs.Prelude.{Err, Ok, Result}
 use Prim.Native.Nat.{ℕ}
 use mathlib.Core.Path.{◌≡◌, refl, sym, ap, subst, ◌∙◌}
 use mathlib.Core.Bool.{Bool, true, false, not}
@@ -19,15 +20,9 @@ use Rattle.measure.specs.Within.{within}
 use Rattle.measure.proofs.Fits.{says_fits, under}
 use Rattle.measure.proofs.Lies.{and_each}
 use Rattle.lawful.specs.Judge.{judged_of}
-use Rattle.lawful.specs.declared.Judged.{Judged}
-use Rattle.lawful.specs.declared.Judged.TheVariants.{Lawful, Breaks}
 use Rattle.copy.specs.Copy.{room_of, no_room_at, laid_at, Outcome, given_at}
-use Rattle.copy.specs.declared.Copied.{Copied}
-use Rattle.copy.specs.declared.Copied.TheVariants.{Done, Refused}
 use Rattle.history.proofs.Tables.{Small}
 use Rattle.msgpack.specs.Skip.{whole_of}
-use Rattle.msgpack.specs.declared.Whole.{Whole}
-use Rattle.msgpack.specs.declared.Whole.TheVariants.{Good, Bad}
 use Rattle.manifest_values.specs.Read.{Got, is, wrong, manifest_at}
 use Rattle.manifest_read.specs.Answer.{broken_of, work_room, read_at_of, by_law as law, by_record as record_by, by_whole as whole_by}
 use Rattle.encoded.specs.Encoded.{Encoded, holds, refused, by_law, by_record, by_whole, encoded_of, long_of}
@@ -36,15 +31,15 @@ use Rattle.standing.proofs.Placing.{stands_judged}
 use Rattle.standing.proofs.Small.{read_small}
 
 -- no judgement is another
-never : {A : Type 0} (rule : ℕ) → Breaks rule ≡ Lawful → A
+never : {A : Type 0} (rule : ℕ) → ◌≡◌ {A = Result Unit ℕ} (Err rule) (Ok tt) → A
 never rule e = let z : ◌≡◌ {A = ℕ} 0 1 = cc in absurd (omega arith)
 
-first_kept : (b : Bool) (rest : Judged) → pick (not b) (Breaks 1) rest ≡ Lawful → b ≡ true
+first_kept : (b : Bool) (rest : Result Unit ℕ) → pick {A = Result Unit ℕ} (not b) (Err 1) rest ≡ Ok tt → b ≡ true
 first_kept true rest e = refl
 first_kept false rest e = never 1 e
 
 -- a lawful manifest fills no more than L1 allows
-pub lawful_fits : (lim : Limits) (m : Manifest) → broken_of lim m ≡ Lawful → fits (manifest_fill m) lim.fill ≡ true
+pub lawful_fits : (lim : Limits) (m : Manifest) → broken_of lim m ≡ Ok tt → fits (manifest_fill m) lim.fill ≡ true
 unfolding broken_of within
 lawful_fits lim m e =
     let w = first_kept (within lim m) _ e in
@@ -53,11 +48,11 @@ lawful_fits lim m e =
 -- ---- what reading comes to, by what the bytes are
 
 abbrev pub read_into : Fill → Lent → Encoded → Outcome
-read_into c o (holds m) = record { answer = Done (manifest_row_at c m); out = laid_at c o (layout_at c m) }
-read_into c o (refused r) = record { answer = Refused r; out = o }
+read_into c o (holds m) = record { answer = Ok (manifest_row_at c m); out = laid_at c o (layout_at c m) }
+read_into c o (refused r) = record { answer = Err r; out = o }
 
 -- where there is room for any manifest within L1 there is room for a lawful one
-lawful_roomy : (lim : Limits) (c room : Fill) → fits (plus c lim.fill) room ≡ true → (m : Manifest) → broken_of lim m ≡ Lawful → fits (plus c (manifest_fill m)) room ≡ true
+lawful_roomy : (lim : Limits) (c room : Fill) → fits (plus c lim.fill) room ≡ true → (m : Manifest) → broken_of lim m ≡ Ok tt → fits (plus c (manifest_fill m)) room ≡ true
 lawful_roomy lim c room h m e =
     let a = under (manifest_fill m) lim.fill (lawful_fits lim m e) in
     let b = under (plus c lim.fill) room h in
@@ -72,7 +67,7 @@ lawful_roomy lim c room h m e =
     })
 
 module _ (lim : Limits) (c : Fill) (o : Lent) (h : fits (plus c lim.fill) (room_of o) ≡ true) where
-  given_is : (m : Manifest) → broken_of lim m ≡ Lawful → given_at lim c m o ≡ read_into c o (holds m)
+  given_is : (m : Manifest) → broken_of lim m ≡ Ok tt → given_at lim c m o ≡ read_into c o (holds m)
   unfolding given_at no_room_at
   given_is m e = rw (lawful_fits lim m e, lawful_roomy lim c (room_of o) h m e)
 
@@ -80,34 +75,34 @@ module _ (lim : Limits) (c : Fill) (o : Lent) (h : fits (plus c lim.fill) (room_
   unfolding read_at_of encoded_of
   read_is s w k f = rw (k, f) (go (whole_of s))
     where
-      judged : (m : Manifest) (j : Judged) → broken_of lim m ≡ j → law j (given_at lim c m o) o ≡ read_into c o (by_law j m)
-      judged m Lawful e = given_is m e
-      judged m (Breaks r) e = refl
+      judged : (m : Manifest) (j : Result Unit ℕ) → broken_of lim m ≡ j → law j (given_at lim c m o) o ≡ read_into c o (by_law j m)
+      judged m (Ok _) e = given_is m e
+      judged m (Err r) e = refl
 
       got : (g : Got Manifest) → record_by lim (λ m. given_at lim c m o) o g ≡ read_into c o (by_record lim g)
       got (is m p) = judged m (broken_of lim m) refl
       got (wrong q) = refl
 
-      go : (x : Whole) → whole_by lim (λ m. given_at lim c m o) s o x ≡ read_into c o (by_whole lim s x)
-      go Good = got (manifest_at s 0)
-      go (Bad q) = refl
+      go : (x : Result Unit ℕ) → whole_by lim (λ m. given_at lim c m o) s o x ≡ read_into c o (by_whole lim s x)
+      go (Ok _) = got (manifest_at s 0)
+      go (Err q) = refl
 
 -- bytes that are a manifest are a lawful one, with run ids of 32 bits
-pub encoded_lawful : (lim : Limits) (s : List ℕ) (m : Manifest) → encoded_of lim s ≡ holds m → (broken_of lim m ≡ Lawful) × Small m
+pub encoded_lawful : (lim : Limits) (s : List ℕ) (m : Manifest) → encoded_of lim s ≡ holds m → (broken_of lim m ≡ Ok tt) × Small m
 unfolding encoded_of
 encoded_lawful lim s m e = go (whole_of s) e
   where
-    judged : (n : Manifest) (p : ℕ) → manifest_at s 0 ≡ is n p → (j : Judged) → broken_of lim n ≡ j → by_law j n ≡ holds m → (broken_of lim m ≡ Lawful) × Small m
-    judged n p g Lawful f e = let z : n ≡ m = cc in (rw (← z) f, rw (← z) (read_small s 0 n p g))
-    judged n p g (Breaks r) f e = let z : ◌≡◌ {A = ℕ} 0 1 = cc in absurd (omega arith)
+    judged : (n : Manifest) (p : ℕ) → manifest_at s 0 ≡ is n p → (j : Result Unit ℕ) → broken_of lim n ≡ j → by_law j n ≡ holds m → (broken_of lim m ≡ Ok tt) × Small m
+    judged n p g (Ok _) f e = let z : n ≡ m = cc in (rw (← z) f, rw (← z) (read_small s 0 n p g))
+    judged n p g (Err r) f e = let z : ◌≡◌ {A = ℕ} 0 1 = cc in absurd (omega arith)
 
-    got : (g : Got Manifest) → manifest_at s 0 ≡ g → by_record lim g ≡ holds m → (broken_of lim m ≡ Lawful) × Small m
+    got : (g : Got Manifest) → manifest_at s 0 ≡ g → by_record lim g ≡ holds m → (broken_of lim m ≡ Ok tt) × Small m
     got (is n p) g e = judged n p g (broken_of lim n) refl e
     got (wrong q) g e = let z : ◌≡◌ {A = ℕ} 0 1 = cc in absurd (omega arith)
 
-    go : (x : Whole) → by_whole lim s x ≡ holds m → (broken_of lim m ≡ Lawful) × Small m
-    go Good e = got (manifest_at s 0) refl e
-    go (Bad q) e = let z : ◌≡◌ {A = ℕ} 0 1 = cc in absurd (omega arith)
+    go : (x : Result Unit ℕ) → by_whole lim s x ≡ holds m → (broken_of lim m ≡ Ok tt) × Small m
+    go (Ok _) e = got (manifest_at s 0) refl e
+    go (Err q) e = let z : ◌≡◌ {A = ℕ} 0 1 = cc in absurd (omega arith)
 
 -- ---- what stands in the tables after some readings
 
@@ -125,7 +120,7 @@ module _ (lim : Limits) (s : List ℕ) (c : Fill) (row : ManifestRow) (l : Lent)
   pub accepted_is : encoded_of lim s ≡ holds (manifest_in l row)
   accepted_is = a.is ∙ ap holds (sym accepted_decode)
 
-  pub accepted_judged : judged_of lim l row ≡ Lawful
+  pub accepted_judged : judged_of lim l row ≡ Ok tt
   accepted_judged =
       let w = encoded_lawful lim s a.value a.is in
       rw a.at (stands_judged c a.value l a.stands w.1 lim ∙ w.0)
@@ -138,23 +133,23 @@ record LaidIn (lim : Limits) (s : List ℕ) (c : Fill) (o o' : Lent) (row : Mani
   pub out : o' ≡ laid_at c o (layout_at c value)
 
 -- what a reading answered, and what the tables hold then
-module _ (lim : Limits) (s : List ℕ) (c : Fill) (o o' : Lent) (r : Copied) (e : record { answer = r; out = o' } ≡ read_into c o (encoded_of lim s)) where
-  pub read_refused : (x : Refusal) → r ≡ Refused x → encoded_of lim s ≡ refused x
+module _ (lim : Limits) (s : List ℕ) (c : Fill) (o o' : Lent) (r : Result ManifestRow Refusal) (e : record { answer = r; out = o' } ≡ read_into c o (encoded_of lim s)) where
+  pub read_refused : (x : Refusal) → r ≡ Err x → encoded_of lim s ≡ refused x
   read_refused x f = go (encoded_of lim s) e
     where
       go : (y : Encoded) → record { answer = r; out = o' } ≡ read_into c o y → y ≡ refused x
-      go (holds m) e = let u : Refused x ≡ Done (manifest_row_at c m) = sym f ∙ ap (λ (w : Outcome). w.answer) e in let z : ◌≡◌ {A = ℕ} 0 1 = cc in absurd (omega arith)
-      go (refused y) e = let u : Refused x ≡ Refused y = sym f ∙ ap (λ (w : Outcome). w.answer) e in let z : y ≡ x = cc in rw z
+      go (holds m) e = let u : Err x ≡ Ok (manifest_row_at c m) = sym f ∙ ap (λ (w : Outcome). w.answer) e in let z : ◌≡◌ {A = ℕ} 0 1 = cc in absurd (omega arith)
+      go (refused y) e = let u : Err x ≡ Err y = sym f ∙ ap (λ (w : Outcome). w.answer) e in let z : y ≡ x = cc in rw z
 
-  module _ (h : fits (plus c lim.fill) (room_of o) ≡ true) (row : ManifestRow) (f : r ≡ Done row) where
+  module _ (h : fits (plus c lim.fill) (room_of o) ≡ true) (row : ManifestRow) (f : r ≡ Ok row) where
     laid_in : LaidIn lim s c o o' row
     laid_in = go (encoded_of lim s) refl e
       where
         go : (y : Encoded) → encoded_of lim s ≡ y → record { answer = r; out = o' } ≡ read_into c o y → LaidIn lim s c o o' row
         go (holds m) i e =
-            let u : Done row ≡ Done (manifest_row_at c m) = sym f ∙ ap (λ (w : Outcome). w.answer) e in
+            let u : Ok row ≡ Ok (manifest_row_at c m) = sym f ∙ ap (λ (w : Outcome). w.answer) e in
             record { value = m; is = i; at = cc; out = ap (λ (w : Outcome). w.out) e }
-        go (refused y) i e = let u : Done row ≡ Refused y = sym f ∙ ap (λ (w : Outcome). w.answer) e in let z : ◌≡◌ {A = ℕ} 0 1 = cc in absurd (omega arith)
+        go (refused y) i e = let u : Ok row ≡ Err y = sym f ∙ ap (λ (w : Outcome). w.answer) e in let z : ◌≡◌ {A = ℕ} 0 1 = cc in absurd (omega arith)
 
     roomy : fits (plus c (manifest_fill laid_in.value)) (room_of o) ≡ true
     roomy = lawful_roomy lim c (room_of o) h laid_in.value (encoded_lawful lim s laid_in.value laid_in.is).0

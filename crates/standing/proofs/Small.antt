@@ -1,4 +1,5 @@
 -- THE RUN IDS OF A MANIFEST THAT WAS READ ARE OF 32 BITS: a number out of its field's range is wrong. Assumes nothing.
+use Rattle.std.specs.Prelude.{Err, Ok, Result}
 use Prim.Native.Nat.{ℕ, zero, suc, ◌-◌, ◌^◌, ◌≤◌}
 use mathlib.Core.Path.{◌≡◌, refl}
 use mathlib.Core.Bool.{Bool, true, ◌&&◌}
@@ -13,14 +14,6 @@ use Rattle.measure.proofs.Layouts.{id_small}
 use Rattle.history.proofs.Tables.{Small}
 use Rattle.msgpack.specs.Skip.{rest_at}
 use Rattle.msgpack.specs.Read.{uint_at, flag_at, group_at, on_uint, on_flag, on_group, on_skipped}
-use Rattle.msgpack.specs.declared.Skipped.{Skipped}
-use Rattle.msgpack.specs.declared.Skipped.TheVariants.{Past, Bad}
-use Rattle.msgpack.specs.declared.Uint.{Uint}
-use Rattle.msgpack.specs.declared.Uint.TheVariants as uint
-use Rattle.msgpack.specs.declared.Flag.{Flag}
-use Rattle.msgpack.specs.declared.Flag.TheVariants as flag
-use Rattle.msgpack.specs.declared.Group.{Group}
-use Rattle.msgpack.specs.declared.Group.TheVariants as group
 use Rattle.msgpack.proofs.Told.{UintTold, uint_told}
 use Rattle.manifest_values.specs.Read.{Got, is, wrong, on, ended, many, list_of, key_at, view_mark_at, sst_mark_at, view_at, run_at, tree_at, segment_at, Trees, trees_at, name_at, numbers_at, borrows_at, epochs_at, manifest_at}
 
@@ -42,27 +35,27 @@ module _ {B : Type 0} (f : B → Bool) where
   has_with h (is x p) k t l = l x p t
   has_with h (wrong q) k t l = tt
 
-  has_group : (g : Group) (k : ℕ → ℕ → Got B) → ((n p : ℕ) → Has f (k n p)) → Has f (on_group wrong g k)
-  has_group (group.Of n p) k l = l n p
-  has_group (group.Wrong q) k l = tt
+  has_group : (g : Result (ℕ × ℕ) ℕ) (k : ℕ → ℕ → Got B) → ((n p : ℕ) → Has f (k n p)) → Has f (on_group wrong g k)
+  has_group (Ok (n, p)) k l = l n p
+  has_group (Err q) k l = tt
 
-  has_flag : (g : Flag) (k : Bool → ℕ → Got B) → ((b : Bool) (p : ℕ) → Has f (k b p)) → Has f (on_flag wrong g k)
-  has_flag (flag.Is b p) k l = l b p
-  has_flag (flag.Wrong q) k l = tt
+  has_flag : (g : Result (Bool × ℕ) ℕ) (k : Bool → ℕ → Got B) → ((b : Bool) (p : ℕ) → Has f (k b p)) → Has f (on_flag wrong g k)
+  has_flag (Ok (b, p)) k l = l b p
+  has_flag (Err q) k l = tt
 
   has_uint : (s : List ℕ) (at most : ℕ) (k : ℕ → ℕ → Got B) → ((x p : ℕ) → x ≤ most → Has f (k x p)) → Has f (on_uint wrong (uint_at s at most) k)
   has_uint s at most k l = go (uint_at s at most) (uint_told s at most)
     where
-      go : (g : Uint) → UintTold at (length s) most g → Has f (on_uint wrong g k)
-      go (uint.Is x p) t = l x p t.0
-      go (uint.Wrong q) t = tt
+      go : (g : Result (ℕ × ℕ) ℕ) → UintTold at (length s) most g → Has f (on_uint wrong g k)
+      go (Ok (x, p)) t = l x p t.0
+      go (Err q) t = tt
 
   has_ended : (s : List ℕ) (n parts : ℕ) (x : B) (p : ℕ) → f x ≡ true → Has f (ended s n parts x p)
   has_ended s n parts x p h = go (rest_at s p n parts)
     where
-      go : (r : Skipped) → Has f (on_skipped wrong r λ q. is x q)
-      go (Past q) = h
-      go (Bad q) = tt
+      go : (r : Result ℕ ℕ) → Has f (on_skipped wrong r λ q. is x q)
+      go (Ok q) = h
+      go (Err q) = tt
 
 has_many : {A : Type 0} (f : A → Bool) (one : ℕ → Got A) → ((p : ℕ) → Has f (one p)) → (n at : ℕ) → Has (all_of f) (many one n at)
 unfolding many

@@ -1,4 +1,3 @@
-pub mod Copies
 pub mod Holds
 pub mod Joined
 pub mod Windows

@@ -2,7 +2,7 @@
 use Rattle.std.specs.Prelude.{ℕ, zero, suc, ◌+◌, List, [], ◌∷◌, ◌++◌, length, take, drop}
 
 -- d with xs stored from index `from`; the rest as it was
-abbrev pub write : List ℕ → ℕ → List ℕ → List ℕ
+abbrev pub write : {A : Type 0} → List A → ℕ → List A → List A
 write d from xs = take from d ++ (xs ++ drop (from + length xs) d)
 
 -- xs at the front of d; the rest as it was lent

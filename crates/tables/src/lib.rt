@@ -23,13 +23,11 @@ pub fn ix(x: u64) -> usize
 pub fn lies_in(w: Window, rows: usize) -> bool
     ensures { result ≡ lies_in w rows }
 {
-    if rows < w.first {
-        return false;
-    }
-    w.count <= rows - w.first
+    w.first <= rows && w.count <= rows - w.first
 }
 
 // How many rows the window holds; none where it points outside.
+#[tactic(auto, using(crate::proofs::Windows::windows))]
 pub fn held(w: Window, rows: usize) -> usize
     ensures { result ≡ held_of w rows }
 {
@@ -39,29 +37,14 @@ pub fn held(w: Window, rows: usize) -> usize
     0
 }
 
-// Puts the words of `src` into `out` from `at` on.
+// Puts `src` into `out` from `at` on, and gives the next place.
 // inner
-pub fn put_words(src: &[u64], out: &mut [u64], at: usize)
+pub fn put<T: Copy>(src: &[T], out: &mut [T], at: usize) -> usize
     requires { at + length src.now ≤ length out.old }
-    ensures { out.new ≡ write out.old at src.now }
+    ensures value { result ≡ at + length src.now }
+    ensures out_after { out.new ≡ write out.old at src.now }
 {
-    let mut k = 0;
-    while k < src.len() {
-        out[at + k] = src[k];
-        k += 1;
-    }
-}
-
-// Puts the bytes of `src` into `out` from `at` on, and gives the next place.
-// inner
-pub fn put_bytes(src: &[u8], out: &mut [u8], at: usize) -> usize
-    requires { at + length src.now ≤ length out.old }
-    ensures { (result ≡ at + length src.now) × (out.new ≡ write out.old at src.now) }
-{
-    let mut k = 0;
-    while k < src.len() {
-        out[at + k] = src[k];
-        k += 1;
-    }
-    at + k
+    let end = at + src.len();
+    out[at..end].copy_from_slice(src);
+    end
 }

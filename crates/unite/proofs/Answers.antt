@@ -1,4 +1,5 @@
 -- Which answer the union gives, by its tests. Assumes nothing.
+use Rattle.std.specs.Prelude.{Err, Ok, Result}
 use Prim.Native.Nat.{ℕ, ◌/◌, ◌≤◌, ◌<◌}
 use mathlib.Core.Path.{◌≡◌, sym, ◌∙◌}
 use mathlib.Core.Bool.{Bool, true, false}
@@ -8,8 +9,6 @@ use borrow.Author.Tests.{lt-ltb, le-ltb}
 use Rattle.records.specs.Decode.{Lent}
 use Rattle.records.specs.declared.Limits.{Limits}
 use Rattle.records.specs.declared.Refusal.TheVariants.{Unlawful, OverLimit, NoRoom}
-use Rattle.lawful.specs.declared.Judged.{Judged}
-use Rattle.lawful.specs.declared.Judged.TheVariants.{Lawful, Breaks}
 use Rattle.borrows.specs.Clone.{uuids_of}
 use Rattle.unite_sources.specs.Rows.{sources_in}
 use Rattle.unite_judge.specs.Judging.{most_sources, some_path_over, sources_judged}
@@ -32,11 +31,11 @@ module _ (lim : Limits) (l : Lent) (t fresh : List ℕ) (short : Bool) (o : Lent
       unfolding union_in
       union_short v = rw (le-ltb most_sources (length t / 22) h, sym e ∙ u, sym f ∙ v)
 
-      module _ (v : s ≡ false) (j : Judged) (g : j ≡ sources_judged lim l t (length t / 22)) where
-        pub union_broken : (rule : ℕ) → j ≡ Breaks rule → refused (Unlawful rule) o ≡ union_in lim l t fresh short o
+      module _ (v : s ≡ false) (j : Result Unit ℕ) (g : j ≡ sources_judged lim l t (length t / 22)) where
+        pub union_broken : (rule : ℕ) → j ≡ Err rule → refused (Unlawful rule) o ≡ union_in lim l t fresh short o
         unfolding union_in
         union_broken rule w = rw (le-ltb most_sources (length t / 22) h, sym e ∙ u, sym f ∙ v, sym g ∙ w)
 
-        pub union_lawful : (x : Outcome) → j ≡ Lawful → x ≡ union_given lim (sources_in l t (length t / 22)) (uuids_of fresh) o → x ≡ union_in lim l t fresh short o
+        pub union_lawful : (x : Outcome) → j ≡ Ok tt → x ≡ union_given lim (sources_in l t (length t / 22)) (uuids_of fresh) o → x ≡ union_in lim l t fresh short o
         unfolding union_in
         union_lawful x w q = rw (le-ltb most_sources (length t / 22) h, sym e ∙ u, sym f ∙ v, sym g ∙ w) q

@@ -1,4 +1,5 @@
 -- The union without an extractor laid at the front of the tables: the joined trees, then the borrows. Assumes nothing.
+use Rattle.std.specs.Prelude.{None, Option, Some}
 use Prim.Native.Nat.{ℕ, suc, ◌+◌, ◌*◌, ◌≤◌}
 use mathlib.Core.Path.{◌≡◌, refl, sym, ap, ◌∙◌}
 use mathlib.Core.Bool.{true}
@@ -14,14 +15,11 @@ use Rattle.records.specs.Model.{Tree, Borrow, none, Manifest}
 use Rattle.records.specs.Fill.{empty, plus, sum, tree_fill, manifest_fill}
 use Rattle.records.specs.Layout.{tree_row, tree_bytes, tree_views_laid, tree_runs_laid, segments_laid, segments_views_laid, segments_runs_laid, borrows_laid, borrow_ids, borrow_path, past_name, manifest_row, layout}
 use Rattle.records.specs.declared.Fill.{Fill}
-use Rattle.records.specs.declared.Name.TheVariants.{Absent}
 use Rattle.records.specs.declared.ManifestRow.{ManifestRow}
 use Rattle.records.specs.declared.TreeRow.{TreeRow}
 use Rattle.records.proofs.Sums.{fill_same}
 use Rattle.records.proofs.Columns.{borrows_fill, tree_fill_lem, tree_bytes_long}
 use Rattle.measure.specs.Walk.{add_of}
-use Rattle.measure.specs.declared.Measured.{Measured}
-use Rattle.measure.specs.declared.Measured.TheVariants.{Broken, Fills}
 use Rattle.project_views.proofs.Summed.{added_broken, added_on}
 use Rattle.unite_trees.specs.Joined.{numbered_tree, numbered_segments}
 use Rattle.unite_trees.proofs.Numbers.{numbered_tree_fill}
@@ -117,7 +115,7 @@ module _ (t : Tree) (ms : List Member) (fresh : List Uuid) (seq : ℕ) where
           initialized = true;
           tree = x;
           segments = record { first = 0; count = 0 };
-          segment_extractor_name = Absent;
+          segment_extractor_name = None;
           next_wal_sst_id = 1;
           replay_after_wal_id = 0;
           last_l0_clock_tick = negsuc 9223372036854775807;
@@ -133,11 +131,11 @@ module _ (t : Tree) (ms : List Member) (fresh : List Uuid) (seq : ℕ) where
 
 -- ---- measured and put
 
-module _ (most c a b : Fill) (s : Measured) (q : c ≡ empty) (e : s ≡ add_of most c a) where
-  pub plain_broken : s ≡ Broken → Broken ≡ add_of most empty (plus a b)
+module _ (most c a b : Fill) (s : Option Fill) (q : c ≡ empty) (e : s ≡ add_of most c a) where
+  pub plain_broken : s ≡ None → None ≡ add_of most empty (plus a b)
   plain_broken h = added_broken most c a b (plus a b) refl s e h ∙ ap (λ (x : Fill). add_of most x (plus a b)) q
 
-  pub plain_added : (d : Fill) (r : Measured) → s ≡ Fills d → r ≡ add_of most d b → r ≡ add_of most empty (plus a b)
+  pub plain_added : (d : Fill) (r : Option Fill) → s ≡ Some d → r ≡ add_of most d b → r ≡ add_of most empty (plus a b)
   plain_added d r h k = added_on most c a b (plus a b) refl s d r e h k ∙ ap (λ (x : Fill). add_of most x (plus a b)) q
 
 module _ (t : Tree) (c a : Fill) (e : c ≡ empty) (q : a ≡ plus c (tree_fill t)) (m n : ℕ) where

@@ -1,5 +1,5 @@
 -- What the union answers, and what every lent output then holds.
-use Rattle.std.specs.Prelude.{ℕ, suc, ◌/◌, Bool, ◌||◌, List, [], ◌∷◌, ltb, length}
+use Rattle.std.specs.Prelude.{ℕ, suc, ◌/◌, Bool, ◌||◌, List, [], ◌∷◌, ltb, length, Err, Ok, Result}
 use Rattle.keys.specs.Pick.{pick}
 use Rattle.ids.specs.declared.Uuid.{Uuid}
 use Rattle.records.specs.Model.{Extractor, none, named, Manifest}
@@ -10,8 +10,6 @@ use Rattle.records.specs.Refusals.{refusal}
 use Rattle.records.specs.declared.Limits.{Limits}
 use Rattle.records.specs.declared.Refusal.{Refusal}
 use Rattle.records.specs.declared.Refusal.TheVariants.{Unlawful, OverLimit, NoRoom, ExtractorsDiffer, Overlap, SegmentsUnnamed, SourcesNest, NoFinal, TooFewFresh}
-use Rattle.lawful.specs.declared.Judged.{Judged}
-use Rattle.lawful.specs.declared.Judged.TheVariants.{Lawful, Breaks}
 use Rattle.copy.specs.Copy.{room_of, no_room, laid_over}
 use Rattle.borrows.specs.Clone.{uuids_of, refuses16}
 use Rattle.unite_ranges.specs.Arranged.{Ranged, whats}
@@ -21,16 +19,15 @@ use Rattle.unite_sources.specs.Prefixed.{all_prefixes, refuses14, refuses12_at, 
 use Rattle.unite_sources.specs.Rows.{sources_in}
 use Rattle.unite_judge.specs.Judging.{most_sources, some_path_over, sources_judged}
 use Rattle.unite.specs.United.{united_from, refuses15_all}
-use Rattle.unite.specs.declared.United as code
-use Rattle.unite.specs.declared.United.TheVariants.{Done, Refused}
+use Rattle.records.specs.declared.ManifestRow.{ManifestRow}
 
 -- an answer, and what the lent output tables hold
 pub record Outcome : Type 0 where
-  pub answer : code.United
+  pub answer : Result ManifestRow Refusal
   pub out : Lent
 
 abbrev pub refused : Refusal → Lent → Outcome
-refused r o = record { answer = Refused r; out = o }
+refused r o = record { answer = Err r; out = o }
 
 -- "then 15, 4, 16"
 unfoldable pub union_to : Limits → List Source → List Uuid → Manifest → Lent → Outcome
@@ -38,7 +35,7 @@ union_to lim us fresh result o =
     pick (refuses15_all us) (refused NoFinal o)
     (pick (no_room lim (room_of o) (manifest_fill result)) (refused NoRoom o)
     (pick (refuses16 result.borrows fresh) (refused TooFewFresh o)
-    (record { answer = Done (manifest_row result); out = laid_over o (layout result) })))
+    (record { answer = Ok (manifest_row result); out = laid_over o (layout result) })))
 
 -- "then 12, 13 without an extractor or 14, 12 with one"
 abbrev pub unless_unfit : Extractor → List (Ranged Source) → Lent → Outcome → Outcome
@@ -56,9 +53,9 @@ union_given lim ss fresh o =
 
 -- ---- on lent tables
 
-abbrev pub unless_broken : Judged → Lent → Outcome → Outcome
-unless_broken Lawful o given = given
-unless_broken (Breaks rule) o given = refused (Unlawful rule) o
+abbrev pub unless_broken : Result Unit ℕ → Lent → Outcome → Outcome
+unless_broken (Ok _) o given = given
+unless_broken (Err rule) o given = refused (Unlawful rule) o
 
 -- "2, 1 (manifests in given order)"; too short working memory is 4, before any manifest is judged
 unfoldable pub union_in : Limits → Lent → List ℕ → List ℕ → Bool → Lent → Outcome
@@ -69,6 +66,6 @@ union_in lim l t fresh short o =
     (union_given lim (sources_in l t (length t / 22)) (uuids_of fresh) o)))
 
 -- the number and the values of each answer
-abbrev pub united : code.United → List ℕ
-united (Done m) = 0 ∷ []
-united (Refused r) = refusal r
+abbrev pub united : Result ManifestRow Refusal → List ℕ
+united (Ok m) = 0 ∷ []
+united (Err r) = refusal r

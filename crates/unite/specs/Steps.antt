@@ -1,11 +1,11 @@
 -- What the inner functions answer. No public promise speaks of it.
-use Rattle.std.specs.Prelude.{ℕ, true, negsuc}
-use Rattle.records.specs.declared.Name.{Name}
+use Rattle.std.specs.Prelude.{ℕ, true, negsuc, Option}
 use Rattle.records.specs.declared.TreeRow.{TreeRow}
 use Rattle.records.specs.declared.ManifestRow.{ManifestRow}
+use Rattle.records.specs.declared.Place.{Place}
 
 -- the row of a union whose segments and borrows stand at the front of the tables: all but what is given is a new manifest's
-abbrev pub united_row : TreeRow → ℕ → Name → ℕ → ℕ → ManifestRow
+abbrev pub united_row : TreeRow → ℕ → Option Place → ℕ → ℕ → ManifestRow
 united_row tree segments name borrows seq =
     record {
       initialized = true;

@@ -16,18 +16,11 @@ ghost use Rattle.unite.specs.United.{assembled};
 ghost use Rattle.unite.specs.Answer.{union_to};
 ghost use Rattle.unite.specs.Steps.{united_row};
 
-use measure::{Measured, fits_in};
-use records::{Fill, Limits, ManifestRow, Name, Refusal, TreeRow};
+use measure::fits_in;
+use records::{Fill, Limits, ManifestRow, Place, Refusal, TreeRow};
 use tables::Window;
 use unite_groups::{measure_groups, put_groups};
 use unite_trees::{measure_joined, put_joined};
-
-// The union's place in the output tables, or why there is none.
-#[derive(Clone, Copy)]
-pub enum United {
-    Done(ManifestRow),
-    Refused(Refusal),
-}
 
 // ---- without an extractor
 
@@ -58,17 +51,14 @@ pub fn measure_plain(
     groups: &[u64],
     count: usize,
     sets: &[u64],
-) -> Measured
+) -> Option<Fill>
     requires n_in_bounds { n * 7 ≤ length order.now }
     requires count_in_bounds { count * 6 ≤ length groups.now }
     ensures { result ≡ add_of most empty (plus (tree_fill (joined_tree (trees_in sources.now order.now n runs.now views.now pool.now))) (sum member_fill (members_in groups.now sets.now pool.now count))) }
 {
     let c = no_fill();
-    let s = measure_joined(most, sources, order, n, runs, views, pool, c);
-    match s {
-        Measured::Broken => Measured::Broken,
-        Measured::Fills(d) => measure_groups(most, groups, count, sets, pool, d),
-    }
+    let d = measure_joined(most, sources, order, n, runs, views, pool, c)?;
+    measure_groups(most, groups, count, sets, pool, d)
 }
 
 // The row of a union whose records were laid at the front of the tables: all but these is the new manifest's.
@@ -76,7 +66,7 @@ pub fn measure_plain(
 pub fn united_row(
     tree: TreeRow,
     segments: usize,
-    name: Name,
+    name: Option<Place>,
     borrows: usize,
     seq: u64,
 ) -> ManifestRow
@@ -159,7 +149,7 @@ pub fn put_plain(
         out_pool,
         at,
     );
-    united_row(tree, 0, Name::Absent, count, seq)
+    united_row(tree, 0, None, count, seq)
 }
 
 // The refusals 4 and 16, then the union without an extractor is laid. Whether each borrow has a final checkpoint was asked before.
@@ -183,51 +173,46 @@ pub fn given_plain(
     out_borrows: &mut [u64],
     out_ids: &mut [u64],
     out_pool: &mut [u8],
-) -> United
+) -> Result<ManifestRow, Refusal>
     requires n_in_bounds { n * 7 ≤ length order.now }
     requires count_in_bounds { count * 6 ≤ length groups.now }
     ensures { record { answer = result; out = record { segments = out_segments.new; views = out_views.new; runs = out_runs.new; borrows = out_borrows.new; ids = out_ids.new; pool = out_pool.new } } ≡ union_to lim [] (uuids_of fresh.now) (assembled (joined_tree (trees_in sources.now order.now n runs.now views.now pool.now)) [] none seq (lent_from (uuids_of fresh.now) 0 (members_in groups.now sets.now pool.now count))) (record { segments = out_segments.old; views = out_views.old; runs = out_runs.old; borrows = out_borrows.old; ids = out_ids.old; pool = out_pool.old }) }
 {
-    let most = lim.fill;
-    match measure_plain(
-        most, sources, order, n, runs, views, pool, groups, count, sets,
-    ) {
-        Measured::Broken => United::Refused(Refusal::NoRoom),
-        Measured::Fills(f) => {
-            let room = Fill {
-                segments: out_segments.len() / 12,
-                views: out_views.len() / 16,
-                runs: out_runs.len() / 3,
-                borrows: out_borrows.len() / 9,
-                ids: out_ids.len() / 2,
-                bytes: out_pool.len(),
-            };
-            if !fits_in(f, room) {
-                return United::Refused(Refusal::NoRoom);
-            }
-            if fresh.len() / 2 < count {
-                return United::Refused(Refusal::TooFewFresh);
-            }
-            let left = f.runs;
-            United::Done(put_plain(
-                sources,
-                order,
-                n,
-                left,
-                runs,
-                views,
-                pool,
-                groups,
-                count,
-                sets,
-                fresh,
-                seq,
-                out_views,
-                out_runs,
-                out_borrows,
-                out_ids,
-                out_pool,
-            ))
-        }
+    let f = measure_plain(
+        lim.fill, sources, order, n, runs, views, pool, groups, count, sets,
+    )
+    .ok_or(Refusal::NoRoom)?;
+    let room = Fill {
+        segments: out_segments.len() / 12,
+        views: out_views.len() / 16,
+        runs: out_runs.len() / 3,
+        borrows: out_borrows.len() / 9,
+        ids: out_ids.len() / 2,
+        bytes: out_pool.len(),
+    };
+    if !fits_in(f, room) {
+        return Err(Refusal::NoRoom);
     }
+    if fresh.len() / 2 < count {
+        return Err(Refusal::TooFewFresh);
+    }
+    Ok(put_plain(
+        sources,
+        order,
+        n,
+        f.runs,
+        runs,
+        views,
+        pool,
+        groups,
+        count,
+        sets,
+        fresh,
+        seq,
+        out_views,
+        out_runs,
+        out_borrows,
+        out_ids,
+        out_pool,
+    ))
 }

@@ -1,4 +1,5 @@
 -- From all sources to the union of the used ones, by the name on which all agree. Assumes nothing.
+use Rattle.std.specs.Prelude.{Option}
 use Prim.Native.Nat.{ℕ, ◌+◌, ◌*◌, ◌≤◌}
 use mathlib.Core.Path.{◌≡◌, refl, sym, ap, ◌∙◌}
 use mathlib.Core.Bool.{Bool, true, false, ◌||◌}
@@ -11,7 +12,6 @@ use Rattle.ids.specs.declared.Uuid.{Uuid}
 use Rattle.records.specs.Model.{Extractor}
 use Rattle.records.specs.Decode.{Lent, name_in}
 use Rattle.records.specs.declared.Limits.{Limits}
-use Rattle.records.specs.declared.Name.{Name}
 use Rattle.records.specs.declared.Refusal.TheVariants.{ExtractorsDiffer}
 use Rattle.unite_ranges.specs.Arranged.{Ranged, arranged}
 use Rattle.unite_ranges.specs.Rows.{ranged_in}
@@ -25,6 +25,7 @@ use Rattle.unite_judge.proofs.Sources.{greatest_sources, name_sources}
 use Rattle.unite.specs.United.{united_from}
 use Rattle.unite.specs.Answer.{Outcome, refused, union_given}
 use Rattle.unite_plain.specs.By.{used_in, union_by}
+use Rattle.records.specs.declared.Place.{Place}
 
 -- ---- working memory
 
@@ -68,8 +69,8 @@ module _ (lim : Limits) (p o g s : ℕ) (h : work_short lim p o g s ≡ false) w
 
 module _ (lim : Limits) (us : List (Ranged Source)) (seq : ℕ) (fresh : List Uuid) (o : Lent) where
   -- with or without an extractor, as the name says
-  pub by_name : (pool : List ℕ) (a b : Name) → a ≡ b → (x : Outcome) → x ≡ union_by lim (name_in pool b) us seq fresh o → x ≡ union_by lim (name_in pool a) us seq fresh o
-  by_name pool a b e x q = q ∙ ap (λ (z : Name). union_by lim (name_in pool z) us seq fresh o) (sym e)
+  pub by_name : (pool : List ℕ) (a b : Option Place) → a ≡ b → (x : Outcome) → x ≡ union_by lim (name_in pool b) us seq fresh o → x ≡ union_by lim (name_in pool a) us seq fresh o
+  by_name pool a b e x q = q ∙ ap (λ (z : Option Place). union_by lim (name_in pool z) us seq fresh o) (sym e)
 
 module _ (lim : Limits) (l : Lent) (t : List ℕ) (n : ℕ) (fresh : List Uuid) (o : Lent) where
   abbrev ss : List Source
@@ -88,7 +89,7 @@ module _ (lim : Limits) (l : Lent) (t : List ℕ) (n : ℕ) (fresh : List Uuid) 
     -- "sources .. with no views are set aside. The others are sorted stably"; "last_l0_seq the greatest over all sources and the extractor name the
     -- agreed one"
     pub given_agreed : b ≡ false → (rows : List ℕ) (k : ℕ) → ranged_in l.pool rows k ≡ arranged (ranged_by (views_at_word l.segments l.runs l.views l.pool t) (words_of n))
-        → (name : Name) → name ≡ agreed_at t n → (seq : ℕ) → seq ≡ greatest_at t n
+        → (name : Option Place) → name ≡ agreed_at t n → (seq : ℕ) → seq ≡ greatest_at t n
         → (x : Outcome) → x ≡ union_by lim (name_in l.pool name) (used_in l t rows k) seq fresh o → x ≡ union_given lim ss fresh o
     given_agreed h rows k e name f seq g x q =
         q

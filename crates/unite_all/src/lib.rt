@@ -3,7 +3,6 @@
 
 ghost use Rattle.std.specs.Prelude.{◌≡◌, true, false, ◌+◌, ◌*◌, ◌≤◌, length};
 ghost use Rattle.records.specs.Decode.{name_in};
-ghost use Rattle.lawful.specs.declared.Judged.TheVariants.{Lawful};
 ghost use Rattle.borrows.specs.Clone.{uuids_of};
 ghost use Rattle.unite_sources.specs.Rows.{sources_in};
 ghost use Rattle.unite_judge.specs.Judging.{most_sources, sources_judged, work_short};
@@ -11,9 +10,7 @@ ghost use Rattle.unite_lend.specs.Used.{sound_below};
 ghost use Rattle.unite.specs.Answer.{union_given, union_in};
 ghost use Rattle.unite_plain.specs.By.{used_in, union_by};
 
-use lawful::Judged;
-use records::{Limits, Name, Refusal};
-use unite::United;
+use records::{Limits, ManifestRow, Place, Refusal};
 use unite_judge::{agreed_name, greatest_seq, some_path_over, sources_judged, work_short};
 use unite_plain::union_plain;
 use unite_prefixes::union_named;
@@ -25,7 +22,7 @@ fn union_by(
     sources: &[u64],
     order: &[u64],
     n: usize,
-    name: Name,
+    name: Option<Place>,
     segments: &[u64],
     views: &[u64],
     runs: &[u64],
@@ -44,7 +41,7 @@ fn union_by(
     out_borrows: &mut [u64],
     out_ids: &mut [u64],
     out_pool: &mut [u8],
-) -> United
+) -> Result<ManifestRow, Refusal>
     requires n_le_most_sources { n ≤ most_sources }
     requires n_in_bounds { n * 7 ≤ length order.now }
     requires n_value { sound_below lim (record { segments = segments.now; views = views.now; runs = runs.now; borrows = borrows.now; ids = ids.now; pool = pool.now }) sources.now order.now n ≡ true }
@@ -55,7 +52,7 @@ fn union_by(
     ensures { record { answer = result; out = record { segments = out_segments.new; views = out_views.new; runs = out_runs.new; borrows = out_borrows.new; ids = out_ids.new; pool = out_pool.new } } ≡ union_by lim (name_in pool.now name) (used_in (record { segments = segments.now; views = views.now; runs = runs.now; borrows = borrows.now; ids = ids.now; pool = pool.now }) sources.now order.now n) seq (uuids_of fresh.now) (record { segments = out_segments.old; views = out_views.old; runs = out_runs.old; borrows = out_borrows.old; ids = out_ids.old; pool = out_pool.old }) }
 {
     match name {
-        Name::Absent => union_plain(
+        None => union_plain(
             lim,
             sources,
             order,
@@ -78,7 +75,7 @@ fn union_by(
             out_ids,
             out_pool,
         ),
-        Name::Named(p) => union_named(
+        Some(p) => union_named(
             lim,
             sources,
             order,
@@ -130,15 +127,15 @@ pub fn union_judged(
     out_borrows: &mut [u64],
     out_ids: &mut [u64],
     out_pool: &mut [u8],
-) -> United
+) -> Result<ManifestRow, Refusal>
     requires n_le_most_sources { n ≤ most_sources }
     requires n_in_bounds { n * 22 ≤ length sources.now }
-    requires n_value { sources_judged lim (record { segments = segments.now; views = views.now; runs = runs.now; borrows = borrows.now; ids = ids.now; pool = pool.now }) sources.now n ≡ Lawful }
+    requires n_value { sources_judged lim (record { segments = segments.now; views = views.now; runs = runs.now; borrows = borrows.now; ids = ids.now; pool = pool.now }) sources.now n ≡ Ok tt }
     requires sets_value { work_short lim (length prefixes.old) (length owned.old) (length groups.old) (length sets.old) ≡ false }
     ensures { record { answer = result; out = record { segments = out_segments.new; views = out_views.new; runs = out_runs.new; borrows = out_borrows.new; ids = out_ids.new; pool = out_pool.new } } ≡ union_given lim (sources_in (record { segments = segments.now; views = views.now; runs = runs.now; borrows = borrows.now; ids = ids.now; pool = pool.now }) sources.now n) (uuids_of fresh.now) (record { segments = out_segments.old; views = out_views.old; runs = out_runs.old; borrows = out_borrows.old; ids = out_ids.old; pool = out_pool.old }) }
 {
     if names_differ(sources, n, pool) {
-        return United::Refused(Refusal::ExtractorsDiffer);
+        return Err(Refusal::ExtractorsDiffer);
     }
     let mut order = [0u64; 56];
     let k = arrange_sources(sources, n, segments, runs, views, pool, &mut order);
@@ -192,42 +189,39 @@ pub fn cloned_from_union(
     out_borrows: &mut [u64],
     out_ids: &mut [u64],
     out_pool: &mut [u8],
-) -> United
+) -> Result<ManifestRow, Refusal>
     ensures { record { answer = result; out = record { segments = out_segments.new; views = out_views.new; runs = out_runs.new; borrows = out_borrows.new; ids = out_ids.new; pool = out_pool.new } } ≡ union_in lim (record { segments = segments.now; views = views.now; runs = runs.now; borrows = borrows.now; ids = ids.now; pool = pool.now }) sources.now fresh.now (work_short lim (length prefixes.old) (length owned.old) (length groups.old) (length sets.old)) (record { segments = out_segments.old; views = out_views.old; runs = out_runs.old; borrows = out_borrows.old; ids = out_ids.old; pool = out_pool.old }) }
 {
     let n = sources.len() / 22;
-    if 8 < n {
-        return United::Refused(Refusal::OverLimit);
-    }
-    if some_path_over(lim.path, pool.len(), sources, n) {
-        return United::Refused(Refusal::OverLimit);
+    if 8 < n || some_path_over(lim.path, pool.len(), sources, n) {
+        return Err(Refusal::OverLimit);
     }
     if work_short(lim, prefixes.len(), owned.len(), groups.len(), sets.len()) {
-        return United::Refused(Refusal::NoRoom);
+        return Err(Refusal::NoRoom);
     }
-    match sources_judged(lim, sources, n, segments, views, runs, borrows, ids, pool) {
-        Judged::Lawful => union_judged(
-            lim,
-            sources,
-            n,
-            segments,
-            views,
-            runs,
-            borrows,
-            ids,
-            pool,
-            fresh,
-            prefixes,
-            owned,
-            groups,
-            sets,
-            out_segments,
-            out_views,
-            out_runs,
-            out_borrows,
-            out_ids,
-            out_pool,
-        ),
-        Judged::Breaks(rule) => United::Refused(Refusal::Unlawful(rule)),
-    }
+    sources_judged(lim, sources, n, segments, views, runs, borrows, ids, pool).map_err(
+        Refusal::Unlawful,
+    )?;
+    union_judged(
+        lim,
+        sources,
+        n,
+        segments,
+        views,
+        runs,
+        borrows,
+        ids,
+        pool,
+        fresh,
+        prefixes,
+        owned,
+        groups,
+        sets,
+        out_segments,
+        out_views,
+        out_runs,
+        out_borrows,
+        out_ids,
+        out_pool,
+    )
 }

@@ -5,8 +5,8 @@ use mathlib.Core.Bool.{Bool, true}
 use mathlib.Core.List.{List, [], ◌∷◌}
 use Rattle.keys.specs.Key.{order_of, is_less}
 use Rattle.keys.specs.Meet.{or_else}
-use Rattle.keys.specs.declared.Order.{Order}
-use Rattle.keys.specs.declared.Order.TheVariants.{Less, Equal, Greater}
+use Rattle.std.specs.declared.cmp.Ordering.{Ordering}
+use Rattle.std.specs.declared.cmp.Ordering.TheVariants.{Less, Equal, Greater}
 use Rattle.keys.proofs.ByteOrder.{Stand, less, same, more, stand, stand_order}
 use Rattle.ids.specs.Id.{sst_bytes}
 use Rattle.ids.specs.declared.SstId.{SstId}
@@ -20,7 +20,7 @@ use Rattle.unite_groups.proofs.IdSets.{id_entered_lem}
 
 -- ---- one more entered in order
 
-module _ {A : Type 0} (ord : A → A → Order) (x : A) (change : A → A)
+module _ {A : Type 0} (ord : A → A → Ordering) (x : A) (change : A → A)
     (flip : (y : A) → ord x y ≡ Greater → ord y x ≡ Less) (before : (y z : A) → ord y (change z) ≡ ord y z) (behind : (y z : A) → ord (change y) z ≡ ord y z) where
   abbrev ascends : List A → Bool
   ascends ys = chain (λ a b. is_less (ord a b)) ys
@@ -37,7 +37,7 @@ module _ {A : Type 0} (ord : A → A → Order) (x : A) (change : A → A)
       let w = and_both (is_less (ord y z)) (ascends (z ∷ ys)) h in
       go (ord x z) refl (λ e. after z e ys w.1) w.0 w.1
     where
-      go : (r : Order) → ord x z ≡ r → (ord x z ≡ Greater → ascends (z ∷ entered (ord x) x change ys) ≡ true) → is_less (ord y z) ≡ true → ascends (z ∷ ys) ≡ true
+      go : (r : Ordering) → ord x z ≡ r → (ord x z ≡ Greater → ascends (z ∷ entered (ord x) x change ys) ≡ true) → is_less (ord y z) ≡ true → ascends (z ∷ ys) ≡ true
           → ascends (y ∷ by_order r (x ∷ z ∷ ys) (change z ∷ ys) (z ∷ entered (ord x) x change ys)) ≡ true
       go Less e ih p q = rw (flip y g, e, q)
       go Equal e ih p q = rw (before y z, p, changed z ys, q)
@@ -48,14 +48,14 @@ module _ {A : Type 0} (ord : A → A → Order) (x : A) (change : A → A)
   entered_ascends [] h = refl
   entered_ascends (y ∷ ys) h = go (ord x y) refl
     where
-      go : (r : Order) → ord x y ≡ r → ascends (by_order r (x ∷ y ∷ ys) (change y ∷ ys) (y ∷ entered (ord x) x change ys)) ≡ true
+      go : (r : Ordering) → ord x y ≡ r → ascends (by_order r (x ∷ y ∷ ys) (change y ∷ ys) (y ∷ entered (ord x) x change ys)) ≡ true
       go Less e = rw (e, h)
       go Equal e = changed y ys ∙ h
       go Greater e = after y e ys h
 
 -- ---- orders turned round
 
-abbrev pub flipped : Order → Order
+abbrev pub flipped : Ordering → Ordering
 flipped Less = Greater
 flipped Equal = Equal
 flipped Greater = Less
@@ -63,12 +63,12 @@ flipped Greater = Less
 order_flips : (a b : List ℕ) → order_of b a ≡ flipped (order_of a b)
 order_flips a b = go (stand a b)
   where
-    go : {o : Order} → Stand a b o → order_of b a ≡ flipped o
+    go : {o : Ordering} → Stand a b o → order_of b a ≡ flipped o
     go (less h) = stand_order (more h)
     go (same h) = stand_order (same (sym h))
     go (more h) = stand_order (less h)
 
-else_flips : (r s : Order) → or_else (flipped r) (flipped s) ≡ flipped (or_else r s)
+else_flips : (r s : Ordering) → or_else (flipped r) (flipped s) ≡ flipped (or_else r s)
 else_flips Less s = refl
 else_flips Equal s = refl
 else_flips Greater s = refl
@@ -100,7 +100,7 @@ set_ascends xs = set_ascends_from [] xs refl
 
 -- ---- groups: "ordered by path bytes then id list", no two with one key
 
-abbrev pub group_order : Group → Group → Order
+abbrev pub group_order : Group → Group → Ordering
 group_order g h = key_order g.path g.ids h.path h.ids
 
 abbrev pub groups_ascend : List Group → Bool

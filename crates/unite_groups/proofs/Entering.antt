@@ -1,4 +1,5 @@
 -- A row entered among the groups: what they stand for then, and where their ids end. Assumes nothing.
+use Rattle.std.specs.Prelude.{Option}
 use Prim.Native.Nat.{ℕ, ◌+◌, ◌-◌, ◌*◌, ◌≤◌}
 use mathlib.Core.Path.{◌≡◌, refl, sym, ap, ◌∙◌}
 use mathlib.Core.Bool.{true, false}
@@ -20,12 +21,12 @@ use Rattle.unite_groups.specs.Steps.{spot_of, entered, group_at, group_words, me
 use Rattle.unite_groups.specs.declared.GroupRow.{GroupRow}
 use Rattle.unite_groups.specs.declared.Grouped.{Grouped}
 use Rattle.unite_groups.specs.declared.Spot.{Spot}
-use Rattle.unite_groups.specs.declared.Supplied as code
 use Rattle.unite_groups.proofs.Spots.{New, Old, entered_new, entered_old}
 use Rattle.unite_groups.proofs.Placing.{rows_held, count_new, place_new, table_new, count_old, place_old, one_holds, table_old}
 use Rattle.unite_groups.proofs.GroupRows.{group_wide, group_held, group_at_back, rows_written, ends, ends_is, ends_later, members_are, map_entered, member_entered_lem}
+use Rattle.ids.specs.declared.Uuid.{Uuid}
 
-module _ (t work pool : List ℕ) (g : Grouped) (row : GroupRow) (s : code.Supplied) (at : Spot) (e : at ≡ spot_of (row_order work pool row) (up_to (group_at t) g.groups))
+module _ (t work pool : List ℕ) (g : Grouped) (row : GroupRow) (s : Option Uuid) (at : Spot) (e : at ≡ spot_of (row_order work pool row) (up_to (group_at t) g.groups))
     (room : (g.groups + 1) * 6 ≤ length t) (ended : end_by g.ids t g.groups ≡ true) where
   abbrev olds : List GroupRow
   olds = up_to (group_at t) g.groups

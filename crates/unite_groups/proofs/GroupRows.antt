@@ -1,4 +1,5 @@
 -- Rows of groups: words read and written, and what they say of the tables that they point into. Assumes nothing.
+use Rattle.std.specs.Prelude.{Option}
 use Prim.Native.Nat.{ℕ, zero, suc, ◌+◌, ◌*◌, ◌/◌, ◌≤◌, ◌<◌}
 use mathlib.Core.Path.{◌≡◌, refl, sym, ap, ◌∙◌}
 use mathlib.Core.Bool.{Bool, true, false}
@@ -10,8 +11,8 @@ use lib.Dec.{leb}
 use lib.ListN.{length, get_or, take, drop}
 use lib.Seq.{drop-cons, length-take-le}
 use borrow.Author.Tests.{leb-true, le-leb}
-use Rattle.keys.specs.declared.Order.{Order}
-use Rattle.keys.specs.declared.Order.TheVariants.{Less, Equal, Greater}
+use Rattle.std.specs.declared.cmp.Ordering.{Ordering}
+use Rattle.std.specs.declared.cmp.Ordering.TheVariants.{Less, Equal, Greater}
 use Rattle.tables.specs.Layout.{write, up_to, joined}
 use Rattle.keys.specs.Pick.{pick}
 use Rattle.tables.specs.Window.{lies_in, held_of}
@@ -31,7 +32,6 @@ use Rattle.unite_groups.specs.Groups.{Member, key_order}
 use Rattle.unite_groups.specs.Rows.{members_in, end_by, better, with_better, member_entered}
 use Rattle.unite_groups.specs.Steps.{entered, group_at, group_words, member_of, better_row}
 use Rattle.unite_groups.specs.declared.GroupRow.{GroupRow}
-use Rattle.unite_groups.specs.declared.Supplied as code
 
 -- ---- one row
 
@@ -112,19 +112,19 @@ unfolding members_in group_at
 members_are t work pool n = up_to_map (member_of work pool) (group_at t) n
 
 -- entering goes along
-pub map_entered : {A B : Type 0} (f : A → B) (o : A → Order) (o' : B → Order) (x : A) (same : A → A) (same' : B → B) → ((y : A) → o y ≡ o' (f y)) → ((y : A) → f (same y) ≡ same' (f y))
+pub map_entered : {A B : Type 0} (f : A → B) (o : A → Ordering) (o' : B → Ordering) (x : A) (same : A → A) (same' : B → B) → ((y : A) → o y ≡ o' (f y)) → ((y : A) → f (same y) ≡ same' (f y))
     → (ys : List A) → map f (entered o x same ys) ≡ entered o' (f x) same' (map f ys)
 unfolding entered
 map_entered f o o' x same same' p q [] = refl
 map_entered {A} {B} f o o' x same same' p q (y ∷ ys) = go (o y) (p y) (map_entered f o o' x same same' p q ys)
   where
-    go : (r : Order) → r ≡ o' (f y) → map f (entered o x same ys) ≡ entered o' (f x) same' (map f ys)
+    go : (r : Ordering) → r ≡ o' (f y) → map f (entered o x same ys) ≡ entered o' (f x) same' (map f ys)
         → map f (by_order r (x ∷ y ∷ ys) (same y ∷ ys) (y ∷ entered o x same ys)) ≡ by_order (o' (f y)) (f x ∷ f y ∷ map f ys) (same' (f y) ∷ map f ys) (f y ∷ entered o' (f x) same' (map f ys))
     go Less e ih = rw (← e)
     go Equal e ih = rw (← e) (ap (λ (b : B). b ∷ map f ys) (q y))
     go Greater e ih = rw (← e) (ap (λ (l : List B). f y ∷ l) ih)
 
-pub member_entered_lem : (s : code.Supplied) (p : List ℕ) (xs : List SstId) (u : Uuid) (gs : List Member)
+pub member_entered_lem : (s : Option Uuid) (p : List ℕ) (xs : List SstId) (u : Uuid) (gs : List Member)
     → member_entered s p xs u gs ≡ entered (λ g. key_order p xs g.path g.ids) (record { path = p; checkpoint = u; ids = xs }) (λ g. with_better s g u) gs
 unfolding member_entered entered
 member_entered_lem s p xs u [] = refl
@@ -168,6 +168,6 @@ module _ (work xs : List ℕ) (past : ℕ) (l : past * 2 + length xs ≤ length 
 
 -- ---- a row whose group one more joins
 
-pub joined_row : (t : List ℕ) (i : ℕ) (s : code.Supplied) (u : Uuid) (h : GroupRow) → h ≡ group_at t i → (c : Uuid) → c ≡ better s h.checkpoint u
+pub joined_row : (t : List ℕ) (i : ℕ) (s : Option Uuid) (u : Uuid) (h : GroupRow) → h ≡ group_at t i → (c : Uuid) → c ≡ better s h.checkpoint u
     → (d : List ℕ) → d ≡ write t (i * 6) (group_words (record { path = h.path; checkpoint = c; ids = h.ids })) → d ≡ write t (i * 6) (group_words (better_row s u (group_at t i)))
 joined_row t i s u h e c f d w = w ∙ rw (f, e)

@@ -1,4 +1,5 @@
 -- Members entered one by one: the borrows of a window, a source's own ids. Assumes nothing.
+use Rattle.std.specs.Prelude.{Option}
 use Prim.Native.Nat.{ℕ, suc, ◌+◌, ◌*◌, ◌/◌, ◌≤◌, ◌<◌}
 use mathlib.Core.Path.{◌≡◌, refl, sym, ap, ◌∙◌}
 use mathlib.Core.Bool.{true}
@@ -36,7 +37,6 @@ use Rattle.unite_groups.specs.Chosen.{Supply, supplied_with}
 use Rattle.unite_groups.specs.Rows.{members_in, end_by, member_entered, entered_from, borrow_member, borrow_members, owned_member}
 use Rattle.unite_groups.specs.Steps.{member_joined}
 use Rattle.unite_groups.specs.declared.Grouped.{Grouped}
-use Rattle.unite_groups.specs.declared.Supplied as code
 use Rattle.unite_groups.proofs.IdSets.{entered_long}
 use Rattle.unite_groups.proofs.GroupRows.{up_to_same, members_kept}
 
@@ -69,7 +69,7 @@ module _ (ids work : List ℕ) (w : Window) (g : Grouped) (room : (g.ids + lengt
       let set = id_set (ids_in ids w) in
       rw (c, e) (ids_back (write work (g.ids * 2) (ids_laid set)) g.ids set (holds_at (take (g.ids * 2) work) (ids_laid set) (drop (g.ids * 2 + length (ids_laid set)) work) (g.ids * 2) (length-take-le (g.ids * 2) work (omega arith))))
 
-  pub one_joined : (groups groups₁ pool : List ℕ) (n : ℕ) (p : Place) (u : Uuid) (ss : List Supply) (s : code.Supplied) → end_by g.ids groups g.groups ≡ true → s ≡ supplied_with ss (bytes_in pool p)
+  pub one_joined : (groups groups₁ pool : List ℕ) (n : ℕ) (p : Place) (u : Uuid) (ss : List Supply) (s : Option Uuid) → end_by g.ids groups g.groups ≡ true → s ≡ supplied_with ss (bytes_in pool p)
       → members_in groups₁ work₁ pool n ≡ member_entered s (bytes_in pool p) (ids_in work₁ (record { first = g.ids; count = count })) u (members_in groups work₁ pool g.groups)
       → members_in groups₁ work₁ pool n ≡ member_joined ss (members_in groups work pool g.groups) (record { path = bytes_in pool p; checkpoint = u; ids = ids_in ids w })
   one_joined groups groups₁ pool n p u ss s h f m =

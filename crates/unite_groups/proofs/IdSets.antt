@@ -8,8 +8,8 @@ use native.Mathlib.Numerals.{add-one}
 use lib.ListN.{length, get_or, take, drop}
 use lib.Seq.{drop-cons, length-take-le}
 use borrow.Author.Tests.{le-leb}
-use Rattle.keys.specs.declared.Order.{Order}
-use Rattle.keys.specs.declared.Order.TheVariants.{Less, Equal, Greater}
+use Rattle.std.specs.declared.cmp.Ordering.{Ordering}
+use Rattle.std.specs.declared.cmp.Ordering.TheVariants.{Less, Equal, Greater}
 use Rattle.tables.specs.Layout.{write, up_to}
 use Rattle.tables.specs.Window.{held_of}
 use Rattle.tables.specs.declared.Window.{Window}
@@ -65,7 +65,7 @@ module _ (t : List ℕ) (w : Window) (x : SstId) where
   id_spotted_none n e = spotted_none (spot_of (sst_order x) (up_to (λ k. id_at t (w.first + k)) (held_of w (length t / 2)))) (sst_order x) (λ k. id_at t (w.first + k)) n (held_of w (length t / 2)) e refl
 
   -- r is how x stands to y, the k-th
-  module _ (n k : ℕ) (i : Spotted (spot_of (sst_order x) (ids_in t w)) (sst_order x) (λ k. id_at t (w.first + k)) n k) (h : k < n) (y : SstId) (r : Order) (e : y ≡ id_at t (w.first + k)) (f : r ≡ sst_order x y) where
+  module _ (n k : ℕ) (i : Spotted (spot_of (sst_order x) (ids_in t w)) (sst_order x) (λ k. id_at t (w.first + k)) n k) (h : k < n) (y : SstId) (r : Ordering) (e : y ≡ id_at t (w.first + k)) (f : r ≡ sst_order x y) where
     pub id_spot_less : r ≡ Less → record { at = k; held = false } ≡ spot_of (sst_order x) (ids_in t w)
     id_spot_less q = spotted_less (spot_of (sst_order x) (ids_in t w)) (sst_order x) (λ k. id_at t (w.first + k)) n k i h r (rw e at f) q
 
@@ -115,7 +115,7 @@ unfolding id_entered
 entered_long x [] = (omega arith, omega arith)
 entered_long x (y ∷ ys) = go (sst_order x y) (entered_long x ys)
   where
-    go : (r : Order) → (length ys ≤ length (id_entered x ys)) × (length (id_entered x ys) ≤ suc (length ys))
+    go : (r : Ordering) → (length ys ≤ length (id_entered x ys)) × (length (id_entered x ys) ≤ suc (length ys))
         → (suc (length ys) ≤ length (by_order r (x ∷ y ∷ ys) (y ∷ ys) (y ∷ id_entered x ys))) × (length (by_order r (x ∷ y ∷ ys) (y ∷ ys) (y ∷ id_entered x ys)) ≤ suc (suc (length ys)))
     go Less ih = (omega arith, omega arith)
     go Equal ih = (omega arith, omega arith)

@@ -1,4 +1,5 @@
 -- Groups as borrows: what they fill, and their final checkpoints. Assumes nothing.
+use Rattle.std.specs.Prelude.{None, Option, Some}
 use Prim.Native.Nat.{ℕ, zero, suc, ◌+◌, ◌/◌, ◌≤◌}
 use mathlib.Core.Path.{◌≡◌, refl, sym, ap, ◌∙◌}
 use mathlib.Core.Bool.{Bool, false}
@@ -10,15 +11,12 @@ use Rattle.tables.specs.Layout.{up_to}
 use Rattle.tables.specs.Window.{held_of}
 use Rattle.tables.proofs.Joined.{up_to_length}
 use Rattle.ids.specs.declared.Uuid.{Uuid}
-use Rattle.ids.specs.declared.Final.TheVariants.{Some}
 use Rattle.records.specs.Row.{id_at}
 use Rattle.records.specs.Decode.{bytes_in, ids_in, borrow_in}
 use Rattle.records.specs.Fill.{plus, sum, fits, borrow_fill}
 use Rattle.records.specs.declared.Fill.{Fill}
 use Rattle.records.proofs.Sums.{fill_same}
 use Rattle.measure.specs.Walk.{add_of}
-use Rattle.measure.specs.declared.Measured.{Measured}
-use Rattle.measure.specs.declared.Measured.TheVariants.{Broken}
 use Rattle.measure.proofs.Fits.{fits_part}
 use Rattle.borrows.specs.Clone.{uuids_of, fresh_at}
 use Rattle.unite_groups.specs.Groups.{Member}
@@ -38,7 +36,7 @@ group_filled groups work pool i h e k p n q =
     fill_same (omega arith, omega arith, omega arith, omega arith, omega arith, omega arith) ∙ ap (λ (r : GroupRow). member_fill (member_of work pool r)) e
 
 -- more than fits before anything is added
-pub over_before : (most c f : Fill) (b : Bool) → b ≡ fits c most → b ≡ false → Broken ≡ add_of most c f
+pub over_before : (most c f : Fill) (b : Bool) → b ≡ fits c most → b ≡ false → None ≡ add_of most c f
 unfolding add_of
 over_before most c f b e h = rw (fits_part c f most (sym e ∙ h))
 
@@ -86,5 +84,5 @@ lent_each groups work pool fresh n =
     let q = lent_up_to fresh (member_at groups work pool) n in
     (lent_fill_lem fresh 0 (up_to (member_at groups work pool) n) ∙ ap (sum borrow_fill) q, q)
 
-pub added_row : (most d f g : Fill) (s : Measured) → f ≡ g → s ≡ add_of most d f → s ≡ add_of most d g
+pub added_row : (most d f g : Fill) (s : Option Fill) → f ≡ g → s ≡ add_of most d f → s ≡ add_of most d g
 added_row most d f g s e h = h ∙ ap (add_of most d) e

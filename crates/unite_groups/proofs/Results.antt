@@ -1,4 +1,5 @@
 -- THE GROUPS that the code makes are those that are defined, each with its checkpoint; an id set names the ids of its list. Assumes nothing.
+use Rattle.std.specs.Prelude.{None, Option, Some}
 use Prim.Native.Nat.{ℕ, ◌^◌, ◌<◌}
 use mathlib.Core.Path.{◌≡◌, refl, sym, ap, ◌∙◌}
 use mathlib.Core.Bool.{Bool, true, false, ◌||◌, true≢false}
@@ -6,8 +7,8 @@ use mathlib.Core.List.{List, [], ◌∷◌, ◌++◌}
 use Rattle.keys.specs.Pick.{pick}
 use Rattle.keys.specs.Key.{order_of, is_less}
 use Rattle.keys.specs.Meet.{or_else}
-use Rattle.keys.specs.declared.Order.{Order}
-use Rattle.keys.specs.declared.Order.TheVariants.{Less, Equal, Greater}
+use Rattle.std.specs.declared.cmp.Ordering.{Ordering}
+use Rattle.std.specs.declared.cmp.Ordering.TheVariants.{Less, Equal, Greater}
 use Rattle.keys.specs.Says.{Says, holds}
 use Rattle.keys.proofs.Says.{true_says}
 use Rattle.keys.proofs.ByteOrder.{stands, of_same}
@@ -20,8 +21,6 @@ use Rattle.unite_groups.specs.Sets.{sst_order, by_order, id_entered, id_set_from
 use Rattle.unite_groups.specs.Groups.{Member, Group, list_order, key_order, alone, joined_by, group_entered, grouped_from, grouped}
 use Rattle.unite_groups.specs.Chosen.{Supply, supplied_with, same_uuid, some_is, lesser, smallest_from, chosen, chosen_all}
 use Rattle.unite_groups.specs.Rows.{better, with_better, member_entered, entered_from}
-use Rattle.unite_groups.specs.declared.Supplied as code
-use Rattle.unite_groups.specs.declared.Supplied.TheVariants as supplied
 
 -- ---- the checkpoint of a group, one by one
 
@@ -63,9 +62,9 @@ smallest_among v c (d ∷ cs) e =
     one_of false p q = q
 
 -- one more checkpoint: better of it and the one chosen so far
-pub chosen_more : (s : code.Supplied) (c : Uuid) (cs : List Uuid) (u : Uuid) → chosen s (c ∷ (cs ++ (u ∷ []))) ≡ better s (chosen s (c ∷ cs)) u
-chosen_more supplied.None c cs u = smallest_more c cs u
-chosen_more (supplied.With v) c cs u =
+pub chosen_more : (s : Option Uuid) (c : Uuid) (cs : List Uuid) (u : Uuid) → chosen s (c ∷ (cs ++ (u ∷ []))) ≡ better s (chosen s (c ∷ cs)) u
+chosen_more None c cs u = smallest_more c cs u
+chosen_more (Some v) c cs u =
     rw (some_more v (c ∷ cs) u, smallest_more c cs u) (go (same_uuid v u) (some_is v (c ∷ cs)) (smallest_among v c cs))
   where
     go : (a b : Bool) → (b ≡ false → same_uuid v (smallest_from c cs) ≡ false)
@@ -76,10 +75,10 @@ chosen_more (supplied.With v) c cs u =
     go false false h = rw (h refl)
 
 -- a group of one
-chosen_one : (s : code.Supplied) (u : Uuid) → chosen s (u ∷ []) ≡ u
+chosen_one : (s : Option Uuid) (u : Uuid) → chosen s (u ∷ []) ≡ u
 unfolding smallest_from
-chosen_one supplied.None u = refl
-chosen_one (supplied.With v) u = go (same_uuid v u) (same_id (λ (a : Uuid). a.0) (λ a. a.1) (λ x y. (x, y)) (λ a. refl) v u)
+chosen_one None u = refl
+chosen_one (Some v) u = go (same_uuid v u) (same_id (λ (a : Uuid). a.0) (λ a. a.1) (λ x y. (x, y)) (λ a. refl) v u)
   where
     go : (b : Bool) → Says (v ≡ u) b → pick (b || false) v u ≡ u
     go true (holds e) = e
@@ -98,10 +97,10 @@ pub data Peopled : List Group → Type 0 where
   none : Peopled []
   next : {g : Group} {gs : List Group} {c : Uuid} {cs : List Uuid} → g.checkpoints ≡ c ∷ cs → Peopled gs → Peopled (g ∷ gs)
 
-same_path : (p q : List ℕ) (s : Order) → or_else (order_of p q) s ≡ Equal → p ≡ q
+same_path : (p q : List ℕ) (s : Ordering) → or_else (order_of p q) s ≡ Equal → p ≡ q
 same_path p q s e = of_same (stands p q Equal (go (order_of p q) e))
   where
-    go : (r : Order) → or_else r s ≡ Equal → r ≡ Equal
+    go : (r : Ordering) → or_else r s ≡ Equal → r ≡ Equal
     go Less e = e
     go Equal e = refl
     go Greater e = e
@@ -112,7 +111,7 @@ module _ (ss : List Supply) (p : List ℕ) (xs : List SstId) (u : Uuid) where
   peopled_more [] none = next refl none
   peopled_more (g ∷ gs) (next e h) = go (key_order p xs g.path g.ids) (peopled_more gs h)
     where
-      go : (r : Order) → Peopled (group_entered p xs u gs) → Peopled (by_order r (alone p xs u ∷ g ∷ gs) (joined_by g u ∷ gs) (g ∷ group_entered p xs u gs))
+      go : (r : Ordering) → Peopled (group_entered p xs u gs) → Peopled (by_order r (alone p xs u ∷ g ∷ gs) (joined_by g u ∷ gs) (g ∷ group_entered p xs u gs))
       go Less ih = next refl (next e h)
       go Equal ih = next (ap (λ l. l ++ (u ∷ [])) e) h
       go Greater ih = next e ih
@@ -122,7 +121,7 @@ module _ (ss : List Supply) (p : List ℕ) (xs : List SstId) (u : Uuid) where
   chosen_entered [] none = ap (λ (v : Uuid). member p v xs ∷ []) (sym (chosen_one (supplied_with ss p) u))
   chosen_entered (g ∷ gs) (next {c = c} {cs = cs} e h) = go (key_order p xs g.path g.ids) refl (chosen_entered gs h)
     where
-      go : (r : Order) → key_order p xs g.path g.ids ≡ r → member_entered (supplied_with ss p) p xs u (chosen_all ss gs) ≡ chosen_all ss (group_entered p xs u gs)
+      go : (r : Ordering) → key_order p xs g.path g.ids ≡ r → member_entered (supplied_with ss p) p xs u (chosen_all ss gs) ≡ chosen_all ss (group_entered p xs u gs)
           → by_order r (member p u xs ∷ picked ss g ∷ chosen_all ss gs) (with_better (supplied_with ss p) (picked ss g) u ∷ chosen_all ss gs) (picked ss g ∷ member_entered (supplied_with ss p) p xs u (chosen_all ss gs))
           ≡ chosen_all ss (by_order r (alone p xs u ∷ g ∷ gs) (joined_by g u ∷ gs) (g ∷ group_entered p xs u gs))
       go Less q ih = ap (λ (v : Uuid). member p v xs ∷ picked ss g ∷ chosen_all ss gs) (sym (chosen_one (supplied_with ss p) u))
@@ -166,7 +165,7 @@ module _ (x : SstId) (f : x.0 < 2 ^ 64) (g : x.1 < 2 ^ 64) where
   whole_more [] empty = both f g empty
   whole_more (y ∷ ys) (both a b h) = go (sst_order x y) (whole_more ys h)
     where
-      go : (r : Order) → Whole (id_entered x ys) → Whole (by_order r (x ∷ y ∷ ys) (y ∷ ys) (y ∷ id_entered x ys))
+      go : (r : Ordering) → Whole (id_entered x ys) → Whole (by_order r (x ∷ y ∷ ys) (y ∷ ys) (y ∷ id_entered x ys))
       go Less ih = both f g (both a b h)
       go Equal ih = both a b h
       go Greater ih = both a b ih
@@ -176,7 +175,7 @@ module _ (x : SstId) (f : x.0 < 2 ^ 64) (g : x.1 < 2 ^ 64) where
   names_entered [] empty z = refl
   names_entered (y ∷ ys) (both a b h) z = go (sst_order x y) refl (names_entered ys h z)
     where
-      go : (r : Order) → sst_order x y ≡ r → names_of (id_entered x ys) z ≡ (same_sst_of x z || names_of ys z)
+      go : (r : Ordering) → sst_order x y ≡ r → names_of (id_entered x ys) z ≡ (same_sst_of x z || names_of ys z)
           → names_of (by_order r (x ∷ y ∷ ys) (y ∷ ys) (y ∷ id_entered x ys)) z ≡ (same_sst_of x z || (same_sst_of y z || names_of ys z))
       go Less e ih = refl
       go Equal e ih =

@@ -7,8 +7,8 @@ use native.Mathlib.Omega.{arith}
 use native.Mathlib.Nat.{add-zero, zero-add, add-suc, suc-add, sub-zero}
 use native.Mathlib.Numerals.{add-one}
 use lib.ListN.{length}
-use Rattle.keys.specs.declared.Order.{Order}
-use Rattle.keys.specs.declared.Order.TheVariants.{Less, Equal, Greater}
+use Rattle.std.specs.declared.cmp.Ordering.{Ordering}
+use Rattle.std.specs.declared.cmp.Ordering.TheVariants.{Less, Equal, Greater}
 use Rattle.tables.specs.Layout.{up_to}
 use Rattle.tables.proofs.Holds.{up_to_front}
 use Rattle.unite_groups.specs.Sets.{by_order}
@@ -30,16 +30,16 @@ abbrev pub past : ℕ → Spot → Spot
 past k s = record { at = k + s.at; held = s.held }
 
 -- x is the place, and it is not before k
-pub record Spotted {A : Type 0} (x : Spot) (o : A → Order) (g : ℕ → A) (n k : ℕ) : Type 0 where
+pub record Spotted {A : Type 0} (x : Spot) (o : A → Ordering) (g : ℕ → A) (n k : ℕ) : Type 0 where
   pub within : k ≤ n
   pub says : x ≡ past k (spot_of o (up_to (λ j. g (k + j)) (n - k)))
 
-module _ {A : Type 0} (x : Spot) (o : A → Order) (g : ℕ → A) (n : ℕ) where
+module _ {A : Type 0} (x : Spot) (o : A → Ordering) (g : ℕ → A) (n : ℕ) where
   pub spotted_none : (m : ℕ) → n ≡ m → x ≡ spot_of o (up_to g m) → Spotted x o g n 0
   spotted_none m e h = record { within = omega arith; says = rw (rest_all g n) (simp zero-add (rw e h)) }
 
   module _ (k : ℕ) (w : Spotted x o g n k) where
-    module _ (h : k < n) (r : Order) (e : r ≡ o (g k)) where
+    module _ (h : k < n) (r : Ordering) (e : r ≡ o (g k)) where
       here : x ≡ past k (by_order r (record { at = 0; held = false }) (record { at = 0; held = true }) (further (spot_of o (up_to (λ j. g (suc k + j)) (n - suc k)))))
       unfolding spot_of
       here = rw e (rw (rest_next g n k h) at w.says)
@@ -57,9 +57,13 @@ module _ {A : Type 0} (x : Spot) (o : A → Order) (g : ℕ → A) (n : ℕ) whe
           let e : k + suc s.at ≡ suc k + s.at = omega arith in
           record { within = omega arith; says = rw (add-one k) (z ∙ ap (λ (i : ℕ). record { at = i; held = s.held }) e) }
 
-    pub spotted_all : n ≤ k → record { at = k; held = false } ≡ x
+    pub spotted_all : n ≤ k → record { at = n; held = false } ≡ x
     unfolding spot_of
-    spotted_all h = let e : n - k ≡ 0 = omega arith in sym (rw (e, add-zero) at w.says)
+    spotted_all h =
+        let e : n - k ≡ 0 = omega arith in
+        let d : n ≡ k = omega (arith, w.within) in
+        let s : record { at = k; held = false } ≡ x = sym (rw (e, add-zero) at w.says) in
+        rw d s
 
 -- ---- the list with it
 
@@ -87,13 +91,13 @@ module _ {A : Type 0} (x : A) (same : A → A) where
   old_further : (y : A) (ys zs : List A) (k : ℕ) → Old ys zs k → Old (y ∷ ys) (y ∷ zs) (suc k)
   old_further y ys zs k n = record { pre = y ∷ n.pre; one = n.one; post = n.post; was = ap (λ (l : List A). y ∷ l) n.was; is = ap (λ (l : List A). y ∷ l) n.is; at = ap suc n.at }
 
-  module _ (o : A → Order) where
+  module _ (o : A → Ordering) where
     pub entered_new : (ys : List A) → (spot_of o ys).held ≡ false → New ys (entered o x same ys) (spot_of o ys).at
     unfolding spot_of entered
     entered_new [] h = record { pre = []; post = []; was = refl; is = refl; at = refl }
     entered_new (y ∷ ys) h = go (o y) (entered_new ys) h
       where
-        go : (r : Order) → ((spot_of o ys).held ≡ false → New ys (entered o x same ys) (spot_of o ys).at)
+        go : (r : Ordering) → ((spot_of o ys).held ≡ false → New ys (entered o x same ys) (spot_of o ys).at)
             → (by_order r (record { at = 0; held = false }) (record { at = 0; held = true }) (further (spot_of o ys))).held ≡ false
             → New (y ∷ ys) (by_order r (x ∷ y ∷ ys) (same y ∷ ys) (y ∷ entered o x same ys)) (by_order r (record { at = 0; held = false }) (record { at = 0; held = true }) (further (spot_of o ys))).at
         go Less ih h = record { pre = []; post = y ∷ ys; was = refl; is = refl; at = refl }
@@ -105,7 +109,7 @@ module _ {A : Type 0} (x : A) (same : A → A) where
     entered_old [] h = absurd (true≢false (sym h))
     entered_old (y ∷ ys) h = go (o y) (entered_old ys) h
       where
-        go : (r : Order) → ((spot_of o ys).held ≡ true → Old ys (entered o x same ys) (spot_of o ys).at)
+        go : (r : Ordering) → ((spot_of o ys).held ≡ true → Old ys (entered o x same ys) (spot_of o ys).at)
             → (by_order r (record { at = 0; held = false }) (record { at = 0; held = true }) (further (spot_of o ys))).held ≡ true
             → Old (y ∷ ys) (by_order r (x ∷ y ∷ ys) (same y ∷ ys) (y ∷ entered o x same ys)) (by_order r (record { at = 0; held = false }) (record { at = 0; held = true }) (further (spot_of o ys))).at
         go Less ih h = absurd (true≢false (sym h))

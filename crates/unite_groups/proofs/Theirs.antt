@@ -6,8 +6,8 @@ use mathlib.Core.List.{List, [], ◌∷◌, ◌++◌, append_assoc, append-nil}
 use Rattle.keys.specs.Pick.{pick}
 use Rattle.keys.specs.Key.{order_of, is_less, is_equal}
 use Rattle.keys.specs.Meet.{or_else}
-use Rattle.keys.specs.declared.Order.{Order}
-use Rattle.keys.specs.declared.Order.TheVariants.{Less, Equal, Greater}
+use Rattle.std.specs.declared.cmp.Ordering.{Ordering}
+use Rattle.std.specs.declared.cmp.Ordering.TheVariants.{Less, Equal, Greater}
 use Rattle.keys.proofs.ByteOrder.{Stand, less, same, more, stand, stand_order, below_trans}
 use Rattle.ids.specs.Id.{sst_bytes}
 use Rattle.ids.specs.declared.SstId.{SstId}
@@ -19,34 +19,34 @@ use Rattle.unite_groups.proofs.Ascending.{flipped, key_flips, group_order, group
 
 -- ---- how a first stands to a third, by how they stand to a second
 
-pub data Tri : Order → Order → Order → Type 0 where
-  equal_first : {r : Order} → Tri Equal r r
+pub data Tri : Ordering → Ordering → Ordering → Type 0 where
+  equal_first : {r : Ordering} → Tri Equal r r
   less_less : Tri Less Less Less
   less_equal : Tri Less Equal Less
-  less_greater : {r : Order} → Tri Less Greater r
-  greater_first : {r s : Order} → Tri Greater r s
+  less_greater : {r : Ordering} → Tri Less Greater r
+  greater_first : {r s : Ordering} → Tri Greater r s
 
-less_any : (r : Order) → Tri Less r Less
+less_any : (r : Ordering) → Tri Less r Less
 less_any Less = less_less
 less_any Equal = less_equal
 less_any Greater = less_greater
 
-any_less : (r : Order) → Tri r Less Less
+any_less : (r : Ordering) → Tri r Less Less
 any_less Less = less_less
 any_less Equal = equal_first
 any_less Greater = greater_first
 
-any_greater : (r : Order) → Tri r Greater Greater
+any_greater : (r : Ordering) → Tri r Greater Greater
 any_greater Less = less_greater
 any_greater Equal = equal_first
 any_greater Greater = greater_first
 
-equal_else : {a b c : Order} (r : Order) → Tri a b c → Tri a (or_else r b) (or_else r c)
+equal_else : {a b c : Ordering} (r : Ordering) → Tri a b c → Tri a (or_else r b) (or_else r c)
 equal_else {a} Less t = any_less a
 equal_else Equal t = t
 equal_else {a} Greater t = any_greater a
 
-else_tri : {a b c a' b' c' : Order} → Tri a b c → Tri a' b' c' → Tri (or_else a a') (or_else b b') (or_else c c')
+else_tri : {a b c a' b' c' : Ordering} → Tri a b c → Tri a' b' c' → Tri (or_else a a') (or_else b b') (or_else c c')
 else_tri (equal_first {r}) t = equal_else r t
 else_tri less_less t = less_less
 else_tri {b' = b'} less_equal t = less_any b'
@@ -56,7 +56,7 @@ else_tri greater_first t = greater_first
 bytes_tri : (a b c : List ℕ) → Tri (order_of a b) (order_of b c) (order_of a c)
 bytes_tri a b c = go (stand a b) (stand b c)
   where
-    go : {r s : Order} → Stand a b r → Stand b c s → Tri r s (order_of a c)
+    go : {r s : Ordering} → Stand a b r → Stand b c s → Tri r s (order_of a c)
     go (less h) (less k) = rw (stand_order (less (below_trans h k))) less_less
     go (less h) (same k) = rw (stand_order (less (rw k at h))) less_equal
     go (less h) (more k) = less_greater
@@ -77,29 +77,29 @@ list_tri (x ∷ xs) (y ∷ ys) (z ∷ zs) = else_tri (bytes_tri (sst_bytes x) (s
 key_tri : (p : List ℕ) (xs : List SstId) (q : List ℕ) (ys : List SstId) (r : List ℕ) (zs : List SstId) → Tri (key_order p xs q ys) (key_order q ys r zs) (key_order p xs r zs)
 key_tri p xs q ys r zs = else_tri (bytes_tri p q r) (list_tri xs ys zs)
 
-not_equal : {A : Type 0} (r s : Order) → is_equal r ≡ false → is_equal s ≡ true → r ≡ s → A
+not_equal : {A : Type 0} (r s : Ordering) → is_equal r ≡ false → is_equal s ≡ true → r ≡ s → A
 not_equal r s f t e = absurd (true≢false (sym t ∙ ap is_equal (sym e) ∙ f))
 
-after_equal : {a b c : Order} → Tri a b c → a ≡ Equal → c ≡ b
+after_equal : {a b c : Ordering} → Tri a b c → a ≡ Equal → c ≡ b
 after_equal equal_first e = refl
 after_equal less_less e = not_equal Less Equal refl refl e
 after_equal less_equal e = not_equal Less Equal refl refl e
 after_equal less_greater e = not_equal Less Equal refl refl e
 after_equal greater_first e = not_equal Greater Equal refl refl e
 
-after_less : {a b c : Order} → Tri a b c → a ≡ Less → b ≡ Less → c ≡ Less
+after_less : {a b c : Ordering} → Tri a b c → a ≡ Less → b ≡ Less → c ≡ Less
 after_less equal_first e f = f
 after_less less_less e f = refl
 after_less less_equal e f = refl
 after_less less_greater e f = absurd (true≢false (sym (ap is_less f)))
 after_less greater_first e f = absurd (true≢false (sym (ap is_less e)))
 
-is_less_lem : (r : Order) → is_less r ≡ true → r ≡ Less
+is_less_lem : (r : Ordering) → is_less r ≡ true → r ≡ Less
 is_less_lem Less e = refl
 is_less_lem Equal e = absurd (true≢false (sym e))
 is_less_lem Greater e = absurd (true≢false (sym e))
 
-both_equal : (r s : Order) → (r ≡ Equal → s ≡ Equal) → (s ≡ Equal → r ≡ Equal) → is_equal r ≡ is_equal s
+both_equal : (r s : Ordering) → (r ≡ Equal → s ≡ Equal) → (s ≡ Equal → r ≡ Equal) → is_equal r ≡ is_equal s
 both_equal Less Less f g = refl
 both_equal Less Equal f g = ap is_equal (g refl)
 both_equal Less Greater f g = refl
@@ -137,7 +137,7 @@ module _ (p : List ℕ) (xs : List SstId) where
     case_less : key_order q ys g.path g.ids ≡ Less → groups_ascend (g ∷ gs) ≡ true → pick (is_equal (key_order p xs q ys)) (u ∷ []) (checkpoints_of (g ∷ gs)) ≡ checkpoints_of (g ∷ gs) ++ mine
     case_less l h = go (key_order p xs q ys) refl
       where
-        go : (r : Order) → key_order p xs q ys ≡ r → pick (is_equal r) (u ∷ []) (checkpoints_of (g ∷ gs)) ≡ checkpoints_of (g ∷ gs) ++ pick (is_equal r) (u ∷ []) []
+        go : (r : Ordering) → key_order p xs q ys ≡ r → pick (is_equal r) (u ∷ []) (checkpoints_of (g ∷ gs)) ≡ checkpoints_of (g ∷ gs) ++ pick (is_equal r) (u ∷ []) []
         go Less e = sym (append-nil (checkpoints_of (g ∷ gs)))
         go Equal e = ap (λ (cs : List Uuid). cs ++ (u ∷ [])) (sym (none_above g gs (after_equal (key_tri p xs q ys g.path g.ids) e ∙ l) h))
         go Greater e = sym (append-nil (checkpoints_of (g ∷ gs)))
@@ -156,7 +156,7 @@ module _ (p : List ℕ) (xs : List SstId) where
     case_greater : (ns : List Group) → key_order q ys g.path g.ids ≡ Greater → checkpoints_of ns ≡ checkpoints_of gs ++ mine → checkpoints_of (g ∷ ns) ≡ checkpoints_of (g ∷ gs) ++ mine
     case_greater ns l ih = go (key_order p xs g.path g.ids) refl (key_order p xs q ys) refl ih
       where
-        go : (r : Order) → key_order p xs g.path g.ids ≡ r → (s : Order) → key_order p xs q ys ≡ s → checkpoints_of ns ≡ checkpoints_of gs ++ pick (is_equal s) (u ∷ []) []
+        go : (r : Ordering) → key_order p xs g.path g.ids ≡ r → (s : Ordering) → key_order p xs q ys ≡ s → checkpoints_of ns ≡ checkpoints_of gs ++ pick (is_equal s) (u ∷ []) []
             → pick (is_equal r) g.checkpoints (checkpoints_of ns) ≡ pick (is_equal r) g.checkpoints (checkpoints_of gs) ++ pick (is_equal s) (u ∷ []) []
         go Less e s f ih = ih
         go Equal e Less f ih = sym (append-nil g.checkpoints)
@@ -169,7 +169,7 @@ module _ (p : List ℕ) (xs : List SstId) where
   one_more q ys u [] h = refl
   one_more q ys u (g ∷ gs) h = go (key_order q ys g.path g.ids) refl (one_more q ys u gs (rest_ascends g gs h))
     where
-      go : (r : Order) → key_order q ys g.path g.ids ≡ r → checkpoints_of (group_entered q ys u gs) ≡ checkpoints_of gs ++ pick (is_equal (key_order p xs q ys)) (u ∷ []) []
+      go : (r : Ordering) → key_order q ys g.path g.ids ≡ r → checkpoints_of (group_entered q ys u gs) ≡ checkpoints_of gs ++ pick (is_equal (key_order p xs q ys)) (u ∷ []) []
           → checkpoints_of (by_order r (alone q ys u ∷ g ∷ gs) (joined_by g u ∷ gs) (g ∷ group_entered q ys u gs)) ≡ checkpoints_of (g ∷ gs) ++ pick (is_equal (key_order p xs q ys)) (u ∷ []) []
       go Less e ih = case_less q ys u g gs e h
       go Equal e ih = case_equal q ys u g gs e

@@ -1,9 +1,8 @@
 -- The checkpoint of each group, and the borrows that the groups become.
-use Rattle.std.specs.Prelude.{ℕ, suc, Bool, false, ◌||◌, List, [], ◌∷◌, length}
+use Rattle.std.specs.Prelude.{ℕ, suc, Bool, false, ◌||◌, List, [], ◌∷◌, length, None, Option, Some}
 use Rattle.keys.specs.Pick.{pick}
 use Rattle.keys.specs.Key.{order_of, is_less}
 use Rattle.ids.specs.declared.Uuid.{Uuid}
-use Rattle.ids.specs.declared.Final.TheVariants.{Some}
 use Rattle.ids.specs.Id.{uuid_bytes, same_of}
 use Rattle.segments.specs.Lookup.{same_of as same_bytes}
 use Rattle.records.specs.Model.{Borrow}
@@ -11,22 +10,20 @@ use Rattle.records.specs.Fill.{plus, borrows, ids, key_fill}
 use Rattle.records.specs.declared.Fill.{Fill}
 use Rattle.borrows.specs.Clone.{fresh_at}
 use Rattle.unite_groups.specs.Groups.{Member, Group}
-use Rattle.unite_groups.specs.declared.Supplied as code
-use Rattle.unite_groups.specs.declared.Supplied.TheVariants as supplied
 
 -- the path and the checkpoint of a source
 pub record Supply : Type 0 where
   pub path : List ℕ
   pub checkpoint : Uuid
 
-abbrev pub or_before : code.Supplied → code.Supplied → code.Supplied
-or_before supplied.None before = before
-or_before (supplied.With u) before = supplied.With u
+abbrev pub or_before : Option Uuid → Option Uuid → Option Uuid
+or_before None before = before
+or_before (Some u) before = Some u
 
 -- "the one supplied with that path (that path's last source as sorted)", of sources as sorted
-unfoldable pub supplied_with : List Supply → List ℕ → code.Supplied
-supplied_with [] p = supplied.None
-supplied_with (s ∷ ss) p = or_before (supplied_with ss p) (pick (same_bytes s.path p) (supplied.With s.checkpoint) supplied.None)
+unfoldable pub supplied_with : List Supply → List ℕ → Option Uuid
+supplied_with [] p = None
+supplied_with (s ∷ ss) p = or_before (supplied_with ss p) (pick (same_bytes s.path p) (Some s.checkpoint) None)
 
 abbrev pub same_uuid : Uuid → Uuid → Bool
 same_uuid a b = same_of a.0 a.1 b.0 b.1
@@ -47,9 +44,9 @@ smallest [] = (0, 0)
 smallest (c ∷ cs) = smallest_from c cs
 
 -- "A group's checkpoint is the one supplied with that path .. if a member has it, else the smallest."
-abbrev pub chosen : code.Supplied → List Uuid → Uuid
-chosen supplied.None cs = smallest cs
-chosen (supplied.With u) cs = pick (some_is u cs) u (smallest cs)
+abbrev pub chosen : Option Uuid → List Uuid → Uuid
+chosen None cs = smallest cs
+chosen (Some u) cs = pick (some_is u cs) u (smallest cs)
 
 -- each group with its checkpoint
 unfoldable pub chosen_all : List Supply → List Group → List Member

@@ -2,8 +2,8 @@
 use Rattle.std.specs.Prelude.{ℕ, List, [], ◌∷◌, ◌++◌}
 use Rattle.keys.specs.Key.{order_of}
 use Rattle.keys.specs.Meet.{or_else}
-use Rattle.keys.specs.declared.Order.{Order}
-use Rattle.keys.specs.declared.Order.TheVariants.{Less, Equal, Greater}
+use Rattle.std.specs.declared.cmp.Ordering.{Ordering}
+use Rattle.std.specs.declared.cmp.Ordering.TheVariants.{Less, Equal, Greater}
 use Rattle.ids.specs.declared.SstId.{SstId}
 use Rattle.ids.specs.declared.Uuid.{Uuid}
 use Rattle.unite_groups.specs.Sets.{sst_order, by_order, id_set}
@@ -21,14 +21,14 @@ pub record Group : Type 0 where
   pub checkpoints : List Uuid
 
 -- id lists "compare element by element"
-unfoldable pub list_order : List SstId → List SstId → Order
+unfoldable pub list_order : List SstId → List SstId → Ordering
 list_order [] [] = Equal
 list_order [] (y ∷ ys) = Less
 list_order (x ∷ xs) [] = Greater
 list_order (x ∷ xs) (y ∷ ys) = or_else (sst_order x y) (list_order xs ys)
 
 -- "ordered by path bytes then id list"
-abbrev pub key_order : List ℕ → List SstId → List ℕ → List SstId → Order
+abbrev pub key_order : List ℕ → List SstId → List ℕ → List SstId → Ordering
 key_order p xs q ys = or_else (order_of p q) (list_order xs ys)
 
 abbrev pub alone : List ℕ → List SstId → Uuid → Group

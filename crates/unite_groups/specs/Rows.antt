@@ -1,6 +1,6 @@
 -- Groups as the code holds them, each with the checkpoint chosen so far: six words a row, the path's place, the checkpoint, the window of
 -- its ids in a working list of ids. No public promise speaks of them.
-use Rattle.std.specs.Prelude.{ℕ, suc, ◌+◌, ◌*◌, Bool, true, ◌&&◌, List, [], ◌∷◌, leb}
+use Rattle.std.specs.Prelude.{ℕ, suc, ◌+◌, ◌*◌, Bool, true, ◌&&◌, List, [], ◌∷◌, leb, None, Option, Some}
 use Rattle.keys.specs.Pick.{pick}
 use Rattle.tables.specs.Layout.{up_to}
 use Rattle.records.specs.Row.{at, place_at, window_at}
@@ -12,8 +12,6 @@ use Rattle.borrows.specs.Clone.{final_of}
 use Rattle.unite_groups.specs.Sets.{by_order, id_set}
 use Rattle.unite_groups.specs.Groups.{Member, key_order}
 use Rattle.unite_groups.specs.Chosen.{Supply, supplied_with, same_uuid, lesser}
-use Rattle.unite_groups.specs.declared.Supplied as code
-use Rattle.unite_groups.specs.declared.Supplied.TheVariants as supplied
 
 -- ---- rows
 
@@ -42,14 +40,14 @@ supplies_in supplies pool n = up_to (supply_at supplies pool) n
 
 -- ---- steps: the checkpoint of a group that one more joins
 
-abbrev pub better : code.Supplied → Uuid → Uuid → Uuid
-better supplied.None old new = lesser old new
-better (supplied.With u) old new = pick (same_uuid u new) u (pick (same_uuid u old) old (lesser old new))
+abbrev pub better : Option Uuid → Uuid → Uuid → Uuid
+better None old new = lesser old new
+better (Some u) old new = pick (same_uuid u new) u (pick (same_uuid u old) old (lesser old new))
 
-abbrev pub with_better : code.Supplied → Member → Uuid → Member
+abbrev pub with_better : Option Uuid → Member → Uuid → Member
 with_better s g u = record { path = g.path; checkpoint = better s g.checkpoint u; ids = g.ids }
 
-unfoldable pub member_entered : code.Supplied → List ℕ → List SstId → Uuid → List Member → List Member
+unfoldable pub member_entered : Option Uuid → List ℕ → List SstId → Uuid → List Member → List Member
 member_entered s p xs u [] = record { path = p; checkpoint = u; ids = xs } ∷ []
 member_entered s p xs u (g ∷ gs) =
     by_order (key_order p xs g.path g.ids) (record { path = p; checkpoint = u; ids = xs } ∷ g ∷ gs) (with_better s g u ∷ gs) (g ∷ member_entered s p xs u gs)

@@ -1,17 +1,17 @@
 -- Id sets: "ids ascending, once each".
 use Rattle.std.specs.Prelude.{List, [], ◌∷◌}
 use Rattle.keys.specs.Key.{order_of}
-use Rattle.keys.specs.declared.Order.{Order}
-use Rattle.keys.specs.declared.Order.TheVariants.{Less, Equal, Greater}
+use Rattle.std.specs.declared.cmp.Ordering.{Ordering}
+use Rattle.std.specs.declared.cmp.Ordering.TheVariants.{Less, Equal, Greater}
 use Rattle.ids.specs.declared.SstId.{SstId}
 use Rattle.ids.specs.Id.{sst_bytes}
 
 -- "ULIDs and UUIDs compare as 16 bytes."
-abbrev pub sst_order : SstId → SstId → Order
+abbrev pub sst_order : SstId → SstId → Ordering
 sst_order a b = order_of (sst_bytes a) (sst_bytes b)
 
 -- one of three, by an order
-abbrev pub by_order : {A : Type 0} → Order → A → A → A → A
+abbrev pub by_order : {A : Type 0} → Ordering → A → A → A → A
 by_order Less x y z = x
 by_order Equal x y z = y
 by_order Greater x y z = z

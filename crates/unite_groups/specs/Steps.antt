@@ -1,9 +1,8 @@
 -- Steps of the code: a place among some that ascend, and the rows of the groups. No public promise speaks of them.
-use Rattle.std.specs.Prelude.{ℕ, suc, ◌+◌, ◌*◌, true, false, List, [], ◌∷◌}
+use Rattle.std.specs.Prelude.{ℕ, suc, ◌+◌, ◌*◌, true, false, List, [], ◌∷◌, None, Option, Some}
 use Rattle.keys.specs.Pick.{pick}
-use Rattle.keys.specs.declared.Order.{Order}
+use Rattle.std.specs.declared.cmp.Ordering.{Ordering}
 use Rattle.ids.specs.declared.Uuid.{Uuid}
-use Rattle.ids.specs.declared.Final.TheVariants.{Some}
 use Rattle.segments.specs.Lookup.{same_of as same_bytes}
 use Rattle.records.specs.Row.{at, place_at, window_at}
 use Rattle.records.specs.Model.{Borrow}
@@ -13,8 +12,6 @@ use Rattle.unite_groups.specs.Sets.{by_order, id_set}
 use Rattle.unite_groups.specs.Groups.{Member, key_order}
 use Rattle.unite_groups.specs.Chosen.{Supply, or_before, supplied_with}
 use Rattle.unite_groups.specs.Rows.{better, member_entered}
-use Rattle.unite_groups.specs.declared.Supplied as code
-use Rattle.unite_groups.specs.declared.Supplied.TheVariants as supplied
 use Rattle.unite_groups.specs.declared.Spot.{Spot}
 use Rattle.unite_groups.specs.declared.GroupRow.{GroupRow}
 
@@ -23,12 +20,12 @@ abbrev pub further : Spot → Spot
 further s = record { at = suc s.at; held = s.held }
 
 -- how many come before the place, and whether it is held; `o` says how the one to be entered stands to each
-unfoldable pub spot_of : {A : Type 0} → (A → Order) → List A → Spot
+unfoldable pub spot_of : {A : Type 0} → (A → Ordering) → List A → Spot
 spot_of o [] = record { at = 0; held = false }
 spot_of o (y ∷ ys) = by_order (o y) (record { at = 0; held = false }) (record { at = 0; held = true }) (further (spot_of o ys))
 
 -- x at its place, or the one that holds it changed
-unfoldable pub entered : {A : Type 0} → (A → Order) → A → (A → A) → List A → List A
+unfoldable pub entered : {A : Type 0} → (A → Ordering) → A → (A → A) → List A → List A
 entered o x same [] = x ∷ []
 entered o x same (y ∷ ys) = by_order (o y) (x ∷ y ∷ ys) (same y ∷ ys) (y ∷ entered o x same ys)
 
@@ -44,16 +41,16 @@ abbrev pub member_of : List ℕ → List ℕ → GroupRow → Member
 member_of work pool g = record { path = bytes_in pool g.path; checkpoint = g.checkpoint; ids = ids_in work g.ids }
 
 -- how two rows stand: "by path bytes then id list"
-abbrev pub row_order : List ℕ → List ℕ → GroupRow → GroupRow → Order
+abbrev pub row_order : List ℕ → List ℕ → GroupRow → GroupRow → Ordering
 row_order work pool g h = key_order (bytes_in pool g.path) (ids_in work g.ids) (bytes_in pool h.path) (ids_in work h.ids)
 
 -- a row whose group one more joins
-abbrev pub better_row : code.Supplied → Uuid → GroupRow → GroupRow
+abbrev pub better_row : Option Uuid → Uuid → GroupRow → GroupRow
 better_row s u g = record { path = g.path; checkpoint = better s g.checkpoint u; ids = g.ids }
 
 -- one more source: "that path's last source as sorted"
-abbrev pub supplied_next : Supply → List ℕ → code.Supplied → code.Supplied
-supplied_next x p before = or_before (pick (same_bytes x.path p) (supplied.With x.checkpoint) supplied.None) before
+abbrev pub supplied_next : Supply → List ℕ → Option Uuid → Option Uuid
+supplied_next x p before = or_before (pick (same_bytes x.path p) (Some x.checkpoint) None) before
 
 -- one more member among the groups, with the checkpoint supplied with its path
 abbrev pub member_joined : List Supply → List Member → Member → List Member

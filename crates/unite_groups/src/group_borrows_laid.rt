@@ -12,9 +12,9 @@ ghost use Rattle.unite_groups.specs.Rows.{member_at, members_in};
 
 use crate::group_rows::group_at;
 use emit::put_borrow;
-use ids::{Final, Uuid};
+use ids::Uuid;
 use keys::part;
-use measure::{Measured, add, fits_in};
+use measure::{add, fits_in};
 use records::{BorrowRow, Fill};
 use tables::held;
 
@@ -25,14 +25,13 @@ fn group_fill(groups: &[u64], i: usize, work: &[u64], pool: &[u8]) -> Fill
 {
     let h = group_at(groups, i);
     let p = h.path;
-    let w = h.ids;
     let path = part(pool, p.at, p.len);
     Fill {
         segments: 0,
         views: 0,
         runs: 0,
         borrows: 1,
-        ids: held(w, work.len() / 2),
+        ids: held(h.ids, work.len() / 2),
         bytes: path.len(),
     }
 }
@@ -46,27 +45,18 @@ pub fn measure_groups(
     work: &[u64],
     pool: &[u8],
     c: Fill,
-) -> Measured
+) -> Option<Fill>
     requires { n * 6 ≤ length groups.now }
     ensures { result ≡ add_of most c (sum member_fill (members_in groups.now work.now pool.now n)) }
 {
     if !fits_in(c, most) {
-        return Measured::Broken;
+        return None;
     }
     let mut d = c;
-    let mut k = 0;
-    while k < n {
-        match add(most, d, group_fill(groups, k, work, pool)) {
-            Measured::Broken => {
-                return Measured::Broken;
-            }
-            Measured::Fills(s) => {
-                d = s;
-                k += 1;
-            }
-        }
+    for k in 0..n {
+        d = add(most, d, group_fill(groups, k, work, pool))?;
     }
-    Measured::Fills(d)
+    Some(d)
 }
 
 // The n-th fresh UUID; zero where none was lent.
@@ -102,14 +92,11 @@ fn put_group_at(
 {
     let h = group_at(groups, i);
     let u = fresh_or_zero(fresh, i);
-    let path = h.path;
-    let source = h.checkpoint;
-    let w = h.ids;
     let row = BorrowRow {
-        path,
-        source,
-        fin: Final::Some(u),
-        ids: w,
+        path: h.path,
+        source: h.checkpoint,
+        fin: Some(u),
+        ids: h.ids,
     };
     put_borrow(row, work, pool, out_borrows, out_ids, out_pool, c)
 }
@@ -137,8 +124,7 @@ pub fn put_groups(
     ensures out_pool_after { out_pool.new ≡ write out_pool.old c.bytes (joined borrow_path (lent_from (uuids_of fresh.now) 0 (members_in groups.now work.now pool.now n))) }
 {
     let mut to = c;
-    let mut k = 0;
-    while k < n {
+    for k in 0..n {
         to = put_group_at(
             groups,
             k,
@@ -150,7 +136,6 @@ pub fn put_groups(
             out_pool,
             to,
         );
-        k += 1;
     }
     to
 }

@@ -12,11 +12,12 @@ ghost use Rattle.unite_groups.specs.Chosen.{supplied_with, same_uuid, lesser};
 ghost use Rattle.unite_groups.specs.Rows.{members_in, end_by, supply_at, supplies_in, better, member_entered, entered_from, borrow_member, borrow_members, owned_member};
 
 use crate::group_rows::{enter_ids, group_at, group_spot, put_group};
-use crate::{GroupRow, Grouped, Supplied};
-use ids::{Final, Uuid, order_uuid};
-use keys::{Order, compare, part};
+use crate::{GroupRow, Grouped};
+use ids::{Uuid, order};
+use keys::{compare, part};
 use records::{Place, borrow_at};
 use shift::shift_words;
+use std::cmp::Ordering;
 use tables::{Window, held, ix};
 
 fn same_uuid(a: Uuid, b: Uuid) -> bool
@@ -28,20 +29,20 @@ fn same_uuid(a: Uuid, b: Uuid) -> bool
 fn lesser_of(a: Uuid, b: Uuid) -> Uuid
     ensures { result ≡ lesser a b }
 {
-    match order_uuid(b, a) {
-        Order::Less => b,
-        Order::Equal => a,
-        Order::Greater => a,
+    match order(b, a) {
+        Ordering::Less => b,
+        Ordering::Equal => a,
+        Ordering::Greater => a,
     }
 }
 
 // The checkpoint of a group that `new` joins; `old` is the one chosen so far.
-fn better_of(s: Supplied, old: Uuid, new: Uuid) -> Uuid
+fn better_of(s: Option<Uuid>, old: Uuid, new: Uuid) -> Uuid
     ensures { result ≡ better s old new }
 {
     match s {
-        Supplied::None => lesser_of(old, new),
-        Supplied::With(u) => {
+        None => lesser_of(old, new),
+        Some(u) => {
             if same_uuid(u, new) {
                 return u;
             }
@@ -54,7 +55,13 @@ fn better_of(s: Supplied, old: Uuid, new: Uuid) -> Uuid
 }
 
 // The checkpoint of source `i`, if it has this path, else what was found before it.
-fn supplied_at(supplies: &[u64], i: usize, pool: &[u8], path: Place, before: Supplied) -> Supplied
+fn supplied_at(
+    supplies: &[u64],
+    i: usize,
+    pool: &[u8],
+    path: Place,
+    before: Option<Uuid>,
+) -> Option<Uuid>
     requires { (i + 1) * 4 ≤ length supplies.now }
     ensures { result ≡ supplied_next (supply_at supplies.now pool.now i) (bytes_in pool.now path) before }
 {
@@ -62,22 +69,20 @@ fn supplied_at(supplies: &[u64], i: usize, pool: &[u8], path: Place, before: Sup
     let at = ix(supplies[b]);
     let len = ix(supplies[b + 1]);
     match compare(part(pool, at, len), part(pool, path.at, path.len)) {
-        Order::Less => before,
-        Order::Equal => Supplied::With(Uuid(supplies[b + 2], supplies[b + 3])),
-        Order::Greater => before,
+        Ordering::Less => before,
+        Ordering::Equal => Some(Uuid(supplies[b + 2], supplies[b + 3])),
+        Ordering::Greater => before,
     }
 }
 
 // The checkpoint supplied with a path: that of its last source.
-fn supplied_with(supplies: &[u64], n: usize, pool: &[u8], path: Place) -> Supplied
+fn supplied_with(supplies: &[u64], n: usize, pool: &[u8], path: Place) -> Option<Uuid>
     requires { n * 4 ≤ length supplies.now }
     ensures { result ≡ supplied_with (supplies_in supplies.now pool.now n) (bytes_in pool.now path) }
 {
-    let mut s = Supplied::None;
-    let mut i = 0;
-    while i < n {
+    let mut s = None;
+    for i in 0..n {
         s = supplied_at(supplies, i, pool, path, s);
-        i += 1;
     }
     s
 }
@@ -85,19 +90,16 @@ fn supplied_with(supplies: &[u64], n: usize, pool: &[u8], path: Place) -> Suppli
 // ---- members entered one by one
 
 // One more joins group `i`.
-fn join_group(groups: &mut [u64], i: usize, s: Supplied, u: Uuid)
+fn join_group(groups: &mut [u64], i: usize, s: Option<Uuid>, u: Uuid)
     requires { (i + 1) * 6 ≤ length groups.old }
     ensures { groups.new ≡ write groups.old (i * 6) (group_words (better_row s u (group_at groups.old i))) }
 {
     let h = group_at(groups, i);
-    let path = h.path;
-    let old = h.checkpoint;
-    let ids = h.ids;
-    let checkpoint = better_of(s, old, u);
+    let checkpoint = better_of(s, h.checkpoint, u);
     let row = GroupRow {
-        path,
+        path: h.path,
         checkpoint,
-        ids,
+        ids: h.ids,
     };
     put_group(row, groups, i);
 }
@@ -109,7 +111,7 @@ fn enter_group(
     work: &[u64],
     pool: &[u8],
     row: GroupRow,
-    s: Supplied,
+    s: Option<Uuid>,
 ) -> Grouped
     requires first_value { row.ids.first ≡ g.ids }
     requires count_in_bounds { (g.ids + row.ids.count) * 2 ≤ length work.now }
@@ -171,13 +173,10 @@ fn group_one(
     enter_group(groups, g, work, pool, row, s)
 }
 
-fn final_of(f: Final) -> Uuid
+fn final_of(f: Option<Uuid>) -> Uuid
     ensures { result ≡ final_of f }
 {
-    match f {
-        Final::None => Uuid(0, 0),
-        Final::Some(u) => u,
-    }
+    f.unwrap_or(Uuid(0, 0))
 }
 
 // Enters borrow `i` of a table.
@@ -205,11 +204,10 @@ fn group_borrow(
     ensures work_len_unchanged { length work.new ≡ length work.old }
 {
     let b = borrow_at(borrows, i);
-    let path = b.path;
-    let w = b.ids;
-    let f = b.fin;
-    let u = final_of(f);
-    group_one(ids, w, path, u, pool, supplies, sources, groups, work, g)
+    let u = final_of(b.fin);
+    group_one(
+        ids, b.ids, b.path, u, pool, supplies, sources, groups, work, g,
+    )
 }
 
 // Enters the borrows of a window, each with its final checkpoint.
@@ -237,13 +235,10 @@ pub fn group_borrows(
     ensures work_len_unchanged { length work.new ≡ length work.old }
 {
     let n = held(w, borrows.len() / 9);
-    let first = w.first;
     let mut to = g;
-    let mut k = 0;
-    while k < n {
-        let i = first + k;
+    for k in 0..n {
+        let i = w.first + k;
         to = group_borrow(borrows, i, ids, pool, supplies, sources, groups, work, to);
-        k += 1;
     }
     to
 }

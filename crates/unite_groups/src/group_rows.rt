@@ -8,32 +8,30 @@ ghost use Rattle.unite_groups.specs.Steps.{spot_of, group_at, group_words, row_o
 ghost use Rattle.unite_groups.specs.Groups.{list_order};
 
 use crate::{GroupRow, Spot};
-use ids::{SstId, Uuid, order_sst};
-use keys::{Order, compare, part};
+use ids::{SstId, Uuid, order};
+use keys::{compare, part};
 use records::{Place, id_at, id_words};
 use shift::shift_words;
-use tables::{Window, held, ix, put_words};
+use std::cmp::Ordering;
+use tables::{Window, held, ix, put};
 
 // The place of `x` among the ids of a window, which ascend.
 fn id_spot(work: &[u64], w: Window, x: SstId) -> Spot
     ensures { result ≡ spot_of (sst_order x) (ids_in work.now w) }
 {
     let n = held(w, work.len() / 2);
-    let mut k = 0;
-    while k < n {
-        match order_sst(x, id_at(work, w.first + k)) {
-            Order::Less => {
+    for k in 0..n {
+        match order(x, id_at(work, w.first + k)) {
+            Ordering::Less => {
                 return Spot { at: k, held: false };
             }
-            Order::Equal => {
+            Ordering::Equal => {
                 return Spot { at: k, held: true };
             }
-            Order::Greater => {
-                k += 1;
-            }
+            Ordering::Greater => {}
         }
     }
-    Spot { at: k, held: false }
+    Spot { at: n, held: false }
 }
 
 // Enters `x` into the id set of a window, and gives how many there are then.
@@ -49,7 +47,7 @@ fn enter_id(work: &mut [u64], w: Window, x: SstId) -> usize
     let at = (w.first + s.at) * 2;
     shift_words(work, at, (w.first + w.count) * 2, 2);
     let row = id_words(x);
-    put_words(&row, work, at);
+    put(&row, work, at);
     w.count + 1
 }
 
@@ -61,12 +59,10 @@ pub fn enter_ids(ids: &[u64], from: Window, work: &mut [u64], first: usize) -> u
 {
     let n = held(from, ids.len() / 2);
     let mut count = 0;
-    let mut k = 0;
-    while k < n {
+    for k in 0..n {
         let x = id_at(ids, from.first + k);
         let w = Window { first, count };
         count = enter_id(work, w, x);
-        k += 1;
     }
     count
 }
@@ -74,32 +70,29 @@ pub fn enter_ids(ids: &[u64], from: Window, work: &mut [u64], first: usize) -> u
 // ---- rows of groups
 
 // How two id lists stand, element by element.
-fn list_order(work: &[u64], a: Window, b: Window) -> Order
+fn list_order(work: &[u64], a: Window, b: Window) -> Ordering
     ensures { result ≡ list_order (ids_in work.now a) (ids_in work.now b) }
 {
     let n = held(a, work.len() / 2);
     let m = held(b, work.len() / 2);
-    let mut k = 0;
-    while k < n {
+    for k in 0..n {
         if m <= k {
-            return Order::Greater;
+            return Ordering::Greater;
         }
-        match order_sst(id_at(work, a.first + k), id_at(work, b.first + k)) {
-            Order::Less => {
-                return Order::Less;
+        match order(id_at(work, a.first + k), id_at(work, b.first + k)) {
+            Ordering::Less => {
+                return Ordering::Less;
             }
-            Order::Equal => {
-                k += 1;
-            }
-            Order::Greater => {
-                return Order::Greater;
+            Ordering::Equal => {}
+            Ordering::Greater => {
+                return Ordering::Greater;
             }
         }
     }
-    if k < m {
-        return Order::Less;
+    if n < m {
+        return Ordering::Less;
     }
-    Order::Equal
+    Ordering::Equal
 }
 
 // Row `i` of the groups.
@@ -139,11 +132,11 @@ pub fn put_group(g: GroupRow, groups: &mut [u64], i: usize)
     ensures { groups.new ≡ write groups.old (i * 6) (group_words g) }
 {
     let row = group_words(g);
-    put_words(&row, groups, i * 6);
+    put(&row, groups, i * 6);
 }
 
 // How a row stands to row `i`: path bytes, then id list.
-fn group_order(groups: &[u64], i: usize, work: &[u64], pool: &[u8], g: GroupRow) -> Order
+fn group_order(groups: &[u64], i: usize, work: &[u64], pool: &[u8], g: GroupRow) -> Ordering
     requires { (i + 1) * 6 ≤ length groups.now }
     ensures { result ≡ row_order work.now pool.now g (group_at groups.now i) }
 {
@@ -151,13 +144,13 @@ fn group_order(groups: &[u64], i: usize, work: &[u64], pool: &[u8], g: GroupRow)
     let p = g.path;
     let q = h.path;
     match compare(part(pool, p.at, p.len), part(pool, q.at, q.len)) {
-        Order::Less => Order::Less,
-        Order::Equal => {
+        Ordering::Less => Ordering::Less,
+        Ordering::Equal => {
             let a = g.ids;
             let b = h.ids;
             list_order(work, a, b)
         }
-        Order::Greater => Order::Greater,
+        Ordering::Greater => Ordering::Greater,
     }
 }
 
@@ -166,19 +159,16 @@ pub fn group_spot(groups: &[u64], n: usize, work: &[u64], pool: &[u8], g: GroupR
     requires { n * 6 ≤ length groups.now }
     ensures { result ≡ spot_of (row_order work.now pool.now g) (up_to (group_at groups.now) n) }
 {
-    let mut k = 0;
-    while k < n {
+    for k in 0..n {
         match group_order(groups, k, work, pool, g) {
-            Order::Less => {
+            Ordering::Less => {
                 return Spot { at: k, held: false };
             }
-            Order::Equal => {
+            Ordering::Equal => {
                 return Spot { at: k, held: true };
             }
-            Order::Greater => {
-                k += 1;
-            }
+            Ordering::Greater => {}
         }
     }
-    Spot { at: k, held: false }
+    Spot { at: n, held: false }
 }

@@ -12,13 +12,6 @@ use ids::Uuid;
 use records::Place;
 use tables::{Window, held};
 
-// The checkpoint that was supplied with a path, if any.
-#[derive(Clone, Copy)]
-pub enum Supplied {
-    None,
-    With(Uuid),
-}
-
 // How many groups there are, and how many ids of the working list their sets fill.
 #[derive(Clone, Copy)]
 pub struct Grouped {

@@ -1,4 +1,5 @@
 -- The arguments judged, one test after the other. Assumes nothing.
+use Rattle.std.specs.Prelude.{Err, None, Ok, Option, Result}
 use Prim.Native.Nat.{ℕ, zero, suc, ◌+◌, ◌-◌, ◌*◌, ◌/◌, ◌≤◌, ◌<◌}
 use mathlib.Core.Path.{◌≡◌, refl, sym, ap, ◌∙◌}
 use mathlib.Core.Bool.{Bool, true, false, ◌||◌}
@@ -11,16 +12,12 @@ use borrow.Author.Tests.{lt-ltb, le-ltb, lt-leb, le-leb}
 use lib.IntN.{negsuc}
 use Rattle.tables.specs.declared.Window.{Window}
 use Rattle.records.specs.declared.TreeRow.{TreeRow}
-use Rattle.records.specs.declared.Name.{Name}
-use Rattle.records.specs.declared.Name.TheVariants.{Absent}
 use Rattle.records.specs.Row.{at, place_at, window_at, tree_at}
 use Rattle.records.specs.Decode.{Lent}
 use Rattle.records.specs.declared.Limits.{Limits}
 use Rattle.records.specs.declared.ManifestRow.{ManifestRow}
 use Rattle.records.specs.declared.Place.{Place}
 use Rattle.lawful.specs.Judge.{judged_of}
-use Rattle.lawful.specs.declared.Judged.{Judged}
-use Rattle.lawful.specs.declared.Judged.TheVariants.{Lawful, Breaks}
 use Rattle.measure.specs.Placed.{opened}
 use Rattle.unite_sources.specs.Source.{greater}
 use Rattle.unite_sources.specs.Rows.{manifest_at_word}
@@ -143,36 +140,36 @@ module _ (t : List ℕ) (b : ℕ) where
 -- ---- sources
 
 module _ (lim : Limits) (l : Lent) (t : List ℕ) where
-  pub codes_broken : (b : ℕ) (r : Bool) → r ≡ codes_known t b → r ≡ false → Breaks 1 ≡ source_judged lim l t b
+  pub codes_broken : (b : ℕ) (r : Bool) → r ≡ codes_known t b → r ≡ false → Err 1 ≡ source_judged lim l t b
   codes_broken b r e f = rw (sym e ∙ f)
 
-  pub codes_kept : (b : ℕ) (r : Bool) (m : ManifestRow) (j : Judged) → r ≡ codes_known t b → r ≡ true → m ≡ manifest_at_word t b → j ≡ judged_of lim l m → j ≡ source_judged lim l t b
+  pub codes_kept : (b : ℕ) (r : Bool) (m : ManifestRow) (j : Result Unit ℕ) → r ≡ codes_known t b → r ≡ true → m ≡ manifest_at_word t b → j ≡ judged_of lim l m → j ≡ source_judged lim l t b
   codes_kept b r m j e f g h = rw (sym e ∙ f) (h ∙ ap (judged_of lim l) g)
 
   pub record Kept (n i : ℕ) : Type 0 where
     pub within : i ≤ n
-    pub lawful : sources_judged lim l t i ≡ Lawful
+    pub lawful : sources_judged lim l t i ≡ Ok tt
 
-  breaks_later : (n i : ℕ) (rule : ℕ) → i < n → sources_judged lim l t i ≡ Lawful → source_judged lim l t (i * 22) ≡ Breaks rule → Breaks rule ≡ sources_judged lim l t n
+  breaks_later : (n i : ℕ) (rule : ℕ) → i < n → sources_judged lim l t i ≡ Ok tt → source_judged lim l t (i * 22) ≡ Err rule → Err rule ≡ sources_judged lim l t n
   breaks_later zero i rule h k e = absurd (omega arith)
   breaks_later (suc n) i rule h k e =
       elim (dec_lt i n) [
         | yes q ↦ (rw (sym (breaks_later n i rule q k e)))
-        | no q ↦ (let z : i ≡ n = omega arith in let f : source_judged lim l t (n * 22) ≡ Breaks rule = rw z at e in let g : sources_judged lim l t n ≡ Lawful = rw z at k in rw (g, f))
+        | no q ↦ (let z : i ≡ n = omega arith in let f : source_judged lim l t (n * 22) ≡ Err rule = rw z at e in let g : sources_judged lim l t n ≡ (Ok tt) = rw z at k in rw (g, f))
       ]
 
   module _ (n : ℕ) where
     pub kept_none : Kept n 0
     kept_none = record { within = omega arith; lawful = refl }
 
-    module _ (i : ℕ) (k : Kept n i) (j : Judged) where
-      pub kept_more : i < n → j ≡ source_judged lim l t (i * 22) → j ≡ Lawful → Kept n (i + 1)
+    module _ (i : ℕ) (k : Kept n i) (j : Result Unit ℕ) where
+      pub kept_more : i < n → j ≡ source_judged lim l t (i * 22) → j ≡ Ok tt → Kept n (i + 1)
       kept_more h e f = record { within = omega arith; lawful = rw (add-one i) (rw (k.lawful, sym e ∙ f)) }
 
-      pub kept_broken : (rule : ℕ) → i < n → j ≡ source_judged lim l t (i * 22) → j ≡ Breaks rule → Breaks rule ≡ sources_judged lim l t n
+      pub kept_broken : (rule : ℕ) → i < n → j ≡ source_judged lim l t (i * 22) → j ≡ Err rule → Err rule ≡ sources_judged lim l t n
       kept_broken rule h e f = breaks_later n i rule h k.lawful (sym e ∙ f)
 
-    pub kept_all : (i : ℕ) → Kept n i → n ≤ i → Lawful ≡ sources_judged lim l t n
+    pub kept_all : (i : ℕ) → Kept n i → n ≤ i → Ok tt ≡ sources_judged lim l t n
     kept_all i k h = let e : i ≡ n = omega (arith, k.within) in sym (rw e at k.lawful)
 
 pub ruleset keepers = (kept_none, kept_more, kept_broken, kept_all)
@@ -204,16 +201,16 @@ pub ruleset greatests = (greatest_none, greatest_more, greatest_all)
 
 -- ---- the name
 
-pub agreed_none : (t : List ℕ) (n : ℕ) → n ≡ 0 → Absent ≡ agreed_at t n
+pub agreed_none : (t : List ℕ) (n : ℕ) → n ≡ 0 → None ≡ agreed_at t n
 agreed_none t n h = rw h
 
-pub agreed_first : (t : List ℕ) (n : ℕ) (r : Name) → (n ≡ 0 → ⊥) → r ≡ name_at t 0 → r ≡ agreed_at t n
+pub agreed_first : (t : List ℕ) (n : ℕ) (r : Option Place) → (n ≡ 0 → ⊥) → r ≡ name_at t 0 → r ≡ agreed_at t n
 agreed_first t zero r h e = absurd (h refl)
 agreed_first t (suc n) r h e = e
 
 -- ---- a row
 
-pub manifest_read : (t : List ℕ) (b : ℕ) (r : TreeRow) (w v : Window) (name : Name) (x : ℕ) → r ≡ tree_at t b → w ≡ window_at t (b + 10) → name ≡ name_at t b → x ≡ at t (b + 15) → v ≡ window_at t (b + 16)
+pub manifest_read : (t : List ℕ) (b : ℕ) (r : TreeRow) (w v : Window) (name : Option Place) (x : ℕ) → r ≡ tree_at t b → w ≡ window_at t (b + 10) → name ≡ name_at t b → x ≡ at t (b + 15) → v ≡ window_at t (b + 16)
     → record {
       initialized = true;
       tree = r;
@@ -231,7 +228,7 @@ pub manifest_read : (t : List ℕ) (b : ℕ) (r : TreeRow) (w v : Window) (name 
 unfolding manifest_at_word
 manifest_read t b r w v name x e f g h k = rw (e, f, g, h, k)
 
-pub name_none : (t : List ℕ) (b x : ℕ) → x ≡ at t (b + 12) → x ≡ 0 → Absent ≡ name_at t b
+pub name_none : (t : List ℕ) (b x : ℕ) → x ≡ at t (b + 12) → x ≡ 0 → None ≡ name_at t b
 name_none t b x e z = rw (sym e ∙ z)
 
 pub path_read : (most n : ℕ) (t : List ℕ) (i : ℕ) (p : Place) (r : Bool) → p ≡ place_at t (i * 22 + 18) → r ≡ path_over most n p → r ≡ path_over most n (place_at t (i * 22 + 18))

@@ -1,13 +1,11 @@
 -- A union's arguments as they are lent, judged before any source is looked into.
-use Rattle.std.specs.Prelude.{ℕ, suc, ◌+◌, ◌*◌, Bool, true, false, not, ◌&&◌, ◌||◌, List, ltb, leb}
+use Rattle.std.specs.Prelude.{ℕ, suc, ◌+◌, ◌*◌, Bool, true, false, not, ◌&&◌, ◌||◌, List, ltb, leb, Err, Ok, Result}
 use Rattle.keys.specs.Pick.{pick}
 use Rattle.records.specs.Row.{at, place_at}
 use Rattle.records.specs.Decode.{Lent}
 use Rattle.records.specs.declared.Limits.{Limits}
 use Rattle.records.specs.declared.Place.{Place}
 use Rattle.lawful.specs.Judge.{judged_of}
-use Rattle.lawful.specs.declared.Judged.{Judged}
-use Rattle.lawful.specs.declared.Judged.TheVariants.{Lawful, Breaks}
 use Rattle.measure.specs.Placed.{opened}
 use Rattle.unite_sources.specs.Rows.{manifest_at_word}
 
@@ -28,15 +26,15 @@ some_path_over most n t (suc k) = some_path_over most n t k || path_over most n 
 abbrev pub codes_known : List ℕ → ℕ → Bool
 codes_known t b = opened (at t b) true && opened (at t (b + 3)) true && opened (at t (b + 12)) true
 
-abbrev pub source_judged : Limits → Lent → List ℕ → ℕ → Judged
-source_judged lim l t b = pick (codes_known t b) (judged_of lim l (manifest_at_word t b)) (Breaks 1)
+abbrev pub source_judged : Limits → Lent → List ℕ → ℕ → Result Unit ℕ
+source_judged lim l t b = pick (codes_known t b) (judged_of lim l (manifest_at_word t b)) (Err 1)
 
-abbrev pub and_then : Judged → Judged → Judged
-and_then Lawful next = next
-and_then (Breaks rule) next = Breaks rule
+abbrev pub and_then : Result Unit ℕ → Result Unit ℕ → Result Unit ℕ
+and_then (Ok _) next = next
+and_then (Err rule) next = Err rule
 
-abbrev pub sources_judged : Limits → Lent → List ℕ → ℕ → Judged
-sources_judged lim l t ℕ.zero = Lawful
+abbrev pub sources_judged : Limits → Lent → List ℕ → ℕ → Result Unit ℕ
+sources_judged lim l t ℕ.zero = Ok tt
 sources_judged lim l t (suc k) = and_then (sources_judged lim l t k) (source_judged lim l t (k * 22))
 
 -- the working memory has room for any eight sources within L1: so many words for prefixes, for a source's own ids, for groups, and for id sets

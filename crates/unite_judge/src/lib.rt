@@ -9,19 +9,19 @@ ghost use Rattle.unite_sources.specs.Rows.{manifest_at_word};
 ghost use Rattle.unite_judge.specs.Judging.{path_over, some_path_over, codes_known, source_judged, sources_judged, work_short};
 ghost use Rattle.unite_judge.specs.Words.{greatest_at, name_at, agreed_at};
 
-use lawful::{Judged, lawful};
-use records::{Limits, ManifestRow, Name, Place, place_at, tree_at, window_at};
+use lawful::lawful;
+use records::{Limits, ManifestRow, Place, place_at, tree_at, window_at};
 
 // ---- a source's row: 22 words
 
-fn name_at(t: &[u64], b: usize) -> Name
+fn name_at(t: &[u64], b: usize) -> Option<Place>
     requires { b + 22 ≤ length t.now }
     ensures { result ≡ name_at t.now b }
 {
     let p = place_at(t, b + 13);
     match t[b + 12] {
-        0 => Name::Absent,
-        _ => Name::Named(p),
+        0 => None,
+        _ => Some(p),
     }
 }
 
@@ -81,12 +81,10 @@ pub fn some_path_over(most: usize, n: usize, t: &[u64], k: usize) -> bool
     requires { k * 22 ≤ length t.now }
     ensures { result ≡ some_path_over most n t.now k }
 {
-    let mut i = 0;
-    while i < k {
+    for i in 0..k {
         if path_at_over(most, n, t, i) {
             return true;
         }
-        i += 1;
     }
     false
 }
@@ -144,12 +142,12 @@ fn source_judged(
     borrows: &[u64],
     ids: &[u64],
     pool: &[u8],
-) -> Judged
+) -> Result<(), usize>
     requires { b + 22 ≤ length sources.now }
     ensures { result ≡ source_judged lim (record { segments = segments.now; views = views.now; runs = runs.now; borrows = borrows.now; ids = ids.now; pool = pool.now }) sources.now b }
 {
     if !codes_known(sources, b) {
-        return Judged::Breaks(1);
+        return Err(1);
     }
     let m = source_manifest(sources, b);
     lawful(lim, segments, views, runs, borrows, ids, pool, m)
@@ -167,12 +165,11 @@ pub fn sources_judged(
     borrows: &[u64],
     ids: &[u64],
     pool: &[u8],
-) -> Judged
+) -> Result<(), usize>
     requires { n * 22 ≤ length sources.now }
     ensures { result ≡ sources_judged lim (record { segments = segments.now; views = views.now; runs = runs.now; borrows = borrows.now; ids = ids.now; pool = pool.now }) sources.now n }
 {
-    let mut i = 0;
-    while i < n {
+    for i in 0..n {
         let j = source_judged(
             lim,
             sources,
@@ -185,14 +182,13 @@ pub fn sources_judged(
             pool,
         );
         match j {
-            Judged::Lawful => {}
-            Judged::Breaks(rule) => {
-                return Judged::Breaks(rule);
+            Ok(()) => {}
+            Err(rule) => {
+                return Err(rule);
             }
         }
-        i += 1;
     }
-    Judged::Lawful
+    Ok(())
 }
 
 // ---- what all sources say
@@ -213,22 +209,20 @@ pub fn greatest_seq(t: &[u64], n: usize) -> u64
     ensures { result ≡ greatest_at t.now n }
 {
     let mut x = 0;
-    let mut i = 0;
-    while i < n {
+    for i in 0..n {
         x = greater_of(x, t[i * 22 + 15]);
-        i += 1;
     }
     x
 }
 
 // The name of the first of `n` sources.
 // inner
-pub fn agreed_name(t: &[u64], n: usize) -> Name
+pub fn agreed_name(t: &[u64], n: usize) -> Option<Place>
     requires { n * 22 ≤ length t.now }
     ensures { result ≡ agreed_at t.now n }
 {
     if n == 0 {
-        return Name::Absent;
+        return None;
     }
     name_at(t, 0)
 }

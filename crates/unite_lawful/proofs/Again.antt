@@ -1,4 +1,5 @@
 -- WHAT A UNION LAYS OUT IS ACCEPTED AGAIN: the lawful check passes it in the output tables, where the limit of runs is a number of 32 bits. Assumes nothing.
+use Rattle.std.specs.Prelude.{Ok}
 use Prim.Native.Nat.{ℕ, ◌+◌, ◌-◌, ◌/◌, ◌^◌, ◌≤◌}
 use mathlib.Core.Path.{◌≡◌, refl, ap}
 use mathlib.Core.Bool.{Bool, true}
@@ -24,7 +25,6 @@ use Rattle.measure.specs.Measure.{l1_of}
 use Rattle.measure.proofs.Fits.{under}
 use Rattle.measure.proofs.Layouts.{id_small, layout_placed}
 use Rattle.lawful.specs.Judge.{judged_of}
-use Rattle.lawful.specs.declared.Judged.TheVariants.{Lawful}
 use Rattle.copy.specs.Copy.{laid_over}
 use Rattle.merge.proofs.Keeping.{both_and}
 use Rattle.borrows.specs.Clone.{uuids_of}
@@ -36,7 +36,6 @@ use Rattle.unite_sources.specs.Used.{in_order}
 use Rattle.unite_sources.specs.Rows.{sources_in}
 use Rattle.unite.specs.United.{tree_united, segments_united, segment_runs, united_from, united_of}
 use Rattle.unite.specs.Answer.{union_given, union_in}
-use Rattle.unite.specs.declared.United.TheVariants.{Done}
 use Rattle.unite_lawful.specs.Sources.{lawful_source}
 use Rattle.unite_lawful.proofs.Lawful.{Laws, united_lawful}
 use Rattle.unite_lawful.proofs.Answers.{given_done}
@@ -99,12 +98,12 @@ laid_placed m o own each = layout_placed (laid_over o (layout m)) m (begins_befo
     room ids = longer o.ids (layout m).ids (at ids (manifest_fill m)) (layout_long ids m)
     room pool = longer o.pool (layout m).pool (at pool (manifest_fill m)) (layout_long pool m)
 
-laid_judged : (lim : Limits) (m : Manifest) (o : Lent) → Laws lim m → placed (laid_over o (layout m)) (manifest_row m) ≡ true → judged_of lim (laid_over o (layout m)) (manifest_row m) ≡ Lawful
+laid_judged : (lim : Limits) (m : Manifest) (o : Lent) → Laws lim m → placed (laid_over o (layout m)) (manifest_row m) ≡ true → judged_of lim (laid_over o (layout m)) (manifest_row m) ≡ Ok tt
 unfolding judged_of l1_of
 laid_judged lim m o law p = rw (p, decode_over m o, law.first, law.second, law.third, law.fourth, law.fifth)
 
 pub given_accepted : (lim : Limits) (ss : List Source) (fresh : List Uuid) (o : Lent) (row : ManifestRow) → lim.fill.runs ≤ 2 ^ 32 → all_of (lawful_source lim) ss ≡ true
-    → (union_given lim ss fresh o).answer ≡ Done row → judged_of lim (union_given lim ss fresh o).out row ≡ Lawful
+    → (union_given lim ss fresh o).answer ≡ Ok row → judged_of lim (union_given lim ss fresh o).out row ≡ Ok tt
 given_accepted lim ss fresh o row small h e =
     let w = given_done lim ss fresh o row e in
     let m = united_of ss fresh in
@@ -113,7 +112,7 @@ given_accepted lim ss fresh o row small h e =
 
 -- so what the union answers can be a source of the next
 pub union_accepted : (lim : Limits) (l : Lent) (t fresh : List ℕ) (work : Bool) (o : Lent) (row : ManifestRow) → lim.fill.runs ≤ 2 ^ 32
-    → (union_in lim l t fresh work o).answer ≡ Done row → judged_of lim (union_in lim l t fresh work o).out row ≡ Lawful
+    → (union_in lim l t fresh work o).answer ≡ Ok row → judged_of lim (union_in lim l t fresh work o).out row ≡ Ok tt
 union_accepted lim l t fresh work o row small e =
     let w = in_done lim l t fresh work o row e in
     rw w.1.1 (given_accepted lim (sources_in l t (length t / 22)) (uuids_of fresh) o row small w.0 w.1.0)

@@ -1,4 +1,5 @@
 -- WHERE A UNION IS ANSWERED it is lawful, and stands in the output tables. Assumes nothing.
+use Rattle.std.specs.Prelude.{Err, Ok, Result}
 use Prim.Native.Nat.{ℕ, suc}
 use mathlib.Core.Path.{◌≡◌, refl, sym, ap, ◌∙◌}
 use mathlib.Core.Bool.{Bool, true, false, not, ◌&&◌}
@@ -16,7 +17,6 @@ use Rattle.records.specs.declared.Refusal.{Refusal}
 use Rattle.records.specs.declared.Refusal.TheVariants.{NoRoom, ExtractorsDiffer, Overlap, SegmentsUnnamed, SourcesNest, NoFinal, TooFewFresh}
 use Rattle.records.proofs.Stair.{decode_over}
 use Rattle.measure.specs.Tests.{all_of}
-use Rattle.lawful.specs.declared.Judged.TheVariants.{Lawful}
 use Rattle.copy.specs.Copy.{room_of, no_room, laid_over}
 use Rattle.borrows.specs.Clone.{refuses16}
 use Rattle.unite_ranges.specs.Arranged.{whats}
@@ -25,26 +25,25 @@ use Rattle.unite_sources.specs.Used.{in_order, refuses12, refuses13}
 use Rattle.unite_sources.specs.Prefixed.{all_prefixes, refuses14, refuses12_at, place12_at}
 use Rattle.unite.specs.United.{united_from, united_of, refuses15_all}
 use Rattle.unite.specs.Answer.{Outcome, refused, union_to, unless_unfit, union_given}
-use Rattle.unite.specs.declared.United.TheVariants.{Done, Refused}
 use Rattle.unite_lawful.specs.Sources.{judged_as, lawful_source}
 use Rattle.unite_lawful.proofs.Lawful.{laws_judged, united_lawful}
 
 -- no refusal is an answer
-pub never : {A : Type 0} (r : Refusal) (row : ManifestRow) → Refused r ≡ Done row → A
+pub never : {A : Type 0} (r : Refusal) (row : ManifestRow) → Err r ≡ Ok row → A
 never r row e = let z : ◌≡◌ {A = ℕ} 0 1 = cc in absurd (omega arith)
 
 module _ (o : Lent) (row : ManifestRow) where
   -- a refusal before it is not given
-  pub passed : (b : Bool) (r : Refusal) (given : Outcome) → (pick b (refused r o) given).answer ≡ Done row → (b ≡ false) × ((given.answer ≡ Done row) × (pick b (refused r o) given ≡ given))
+  pub passed : (b : Bool) (r : Refusal) (given : Outcome) → (pick b (refused r o) given).answer ≡ Ok row → (b ≡ false) × ((given.answer ≡ Ok row) × (pick b (refused r o) given ≡ given))
   passed true r given e = never r row e
   passed false r given e = (refl, (e, refl))
 
   module _ (lim : Limits) (us : List Source) (fresh : List Uuid) (m : Manifest) where
     -- "then 15, 4, 16"
-    to_done : (union_to lim us fresh m o).answer ≡ Done row → (no_room lim (room_of o) (manifest_fill m) ≡ false) × ((row ≡ manifest_row m) × ((union_to lim us fresh m o).out ≡ laid_over o (layout m)))
+    to_done : (union_to lim us fresh m o).answer ≡ Ok row → (no_room lim (room_of o) (manifest_fill m) ≡ false) × ((row ≡ manifest_row m) × ((union_to lim us fresh m o).out ≡ laid_over o (layout m)))
     unfolding union_to
     to_done e =
-        let done : Outcome = record { answer = Done (manifest_row m); out = laid_over o (layout m) } in
+        let done : Outcome = record { answer = Ok (manifest_row m); out = laid_over o (layout m) } in
         let last = pick (refuses16 m.borrows fresh) (refused TooFewFresh o) done in
         let p = passed (refuses15_all us) NoFinal (pick (no_room lim (room_of o) (manifest_fill m)) (refused NoRoom o) last) e in
         let q = passed (no_room lim (room_of o) (manifest_fill m)) NoRoom last p.1.0 in
@@ -52,12 +51,12 @@ module _ (o : Lent) (row : ManifestRow) where
         let row_is : row ≡ manifest_row m = same (manifest_row m) r.1.0 in
         (q.0, (row_is, ap (λ (w : Outcome). w.out) (p.1.1 ∙ q.1.1 ∙ r.1.1)))
       where
-        same : (x : ManifestRow) → Done x ≡ Done row → row ≡ x
+        same : (x : ManifestRow) → ◌≡◌ {A = Result ManifestRow Refusal} (Ok x) (Ok row) → row ≡ x
         same x h = cc
 
 -- "then 12, 13 without an extractor or 14, 12 with one"
-fit_done : (o : Lent) (row : ManifestRow) (ss : List Source) (name : Extractor) (given : Outcome) → (unless_unfit name (in_order ss) o given).answer ≡ Done row
-    → ((k : List ℕ) → name ≡ named k → refuses14 (all_prefixes (whats (in_order ss))) ≡ false) × ((given.answer ≡ Done row) × (unless_unfit name (in_order ss) o given ≡ given))
+fit_done : (o : Lent) (row : ManifestRow) (ss : List Source) (name : Extractor) (given : Outcome) → (unless_unfit name (in_order ss) o given).answer ≡ Ok row
+    → ((k : List ℕ) → name ≡ named k → refuses14 (all_prefixes (whats (in_order ss))) ≡ false) × ((given.answer ≡ Ok row) × (unless_unfit name (in_order ss) o given ≡ given))
 fit_done o row ss none given e =
     let p = passed o row (refuses12 (in_order ss)) (Overlap 0) (pick (refuses13 (whats (in_order ss))) (refused SegmentsUnnamed o) given) e in
     let q = passed o row (refuses13 (whats (in_order ss))) SegmentsUnnamed given p.1.0 in
@@ -87,7 +86,7 @@ pub record Answered (lim : Limits) (ss : List Source) (fresh : List Uuid) (o : L
   pub row_is : row ≡ manifest_row (united_of ss fresh)
   pub out_is : (union_given lim ss fresh o).out ≡ laid_over o (layout (united_of ss fresh))
 
-pub given_done : (lim : Limits) (ss : List Source) (fresh : List Uuid) (o : Lent) (row : ManifestRow) → (union_given lim ss fresh o).answer ≡ Done row → Answered lim ss fresh o row
+pub given_done : (lim : Limits) (ss : List Source) (fresh : List Uuid) (o : Lent) (row : ManifestRow) → (union_given lim ss fresh o).answer ≡ Ok row → Answered lim ss fresh o row
 unfolding union_given united_of
 given_done lim ss fresh o row e =
     let us = whats (in_order ss) in
@@ -99,8 +98,8 @@ given_done lim ss fresh o row e =
     record { unnested = q.0; fit = room_fits lim o m r.0; row_is = r.1.0; out_is = ap (λ (w : Outcome). w.out) (p.1.1 ∙ q.1.1) ∙ r.1.1 }
 
 -- ONE THEOREM: of lawful sources, where the union is answered, its row names the union in the output tables, and that is lawful
-pub union_lawful : (lim : Limits) (ss : List Source) (fresh : List Uuid) (o : Lent) (row : ManifestRow) → all_of (lawful_source lim) ss ≡ true → (union_given lim ss fresh o).answer ≡ Done row
-    → (manifest_in (union_given lim ss fresh o).out row ≡ united_of ss fresh) × (judged_as lim (united_of ss fresh) ≡ Lawful)
+pub union_lawful : (lim : Limits) (ss : List Source) (fresh : List Uuid) (o : Lent) (row : ManifestRow) → all_of (lawful_source lim) ss ≡ true → (union_given lim ss fresh o).answer ≡ Ok row
+    → (manifest_in (union_given lim ss fresh o).out row ≡ united_of ss fresh) × (judged_as lim (united_of ss fresh) ≡ Ok tt)
 union_lawful lim ss fresh o row h e =
     let w = given_done lim ss fresh o row e in
     let m = united_of ss fresh in

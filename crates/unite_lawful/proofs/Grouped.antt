@@ -4,7 +4,7 @@ use mathlib.Core.Path.{◌≡◌, refl, ◌∙◌}
 use mathlib.Core.Bool.{Bool, true}
 use mathlib.Core.List.{List, [], ◌∷◌}
 use Rattle.keys.specs.Key.{is_less}
-use Rattle.keys.specs.declared.Order.TheVariants.{Equal}
+use Rattle.std.specs.declared.cmp.Ordering.TheVariants.{Equal}
 use Rattle.keys.proofs.ByteOrder.{Stand, stand_order}
 use Rattle.ids.specs.Id.{sst_bytes}
 use Rattle.ids.specs.declared.SstId.{SstId}

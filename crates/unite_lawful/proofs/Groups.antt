@@ -3,8 +3,8 @@ use Prim.Native.Nat.{ℕ, suc}
 use mathlib.Core.Path.{◌≡◌, refl, ◌∙◌}
 use mathlib.Core.Bool.{Bool, true}
 use mathlib.Core.List.{List, [], ◌∷◌}
-use Rattle.keys.specs.declared.Order.{Order}
-use Rattle.keys.specs.declared.Order.TheVariants.{Less, Equal, Greater}
+use Rattle.std.specs.declared.cmp.Ordering.{Ordering}
+use Rattle.std.specs.declared.cmp.Ordering.TheVariants.{Less, Equal, Greater}
 use Rattle.ids.specs.declared.SstId.{SstId}
 use Rattle.ids.specs.declared.Uuid.{Uuid}
 use Rattle.records.specs.Model.{Borrow}
@@ -23,7 +23,7 @@ module _ (test : SstId → Bool) where
   entered_all x [] e f = both_and e refl
   entered_all x (y ∷ ys) e f = let w = and_both (test y) (all_of test ys) f in go (sst_order x y) (both_and w.0 (entered_all x ys e w.1))
     where
-      go : (r : Order) → all_of test (y ∷ id_entered x ys) ≡ true → all_of test (by_order r (x ∷ y ∷ ys) (y ∷ ys) (y ∷ id_entered x ys)) ≡ true
+      go : (r : Ordering) → all_of test (y ∷ id_entered x ys) ≡ true → all_of test (by_order r (x ∷ y ∷ ys) (y ∷ ys) (y ∷ id_entered x ys)) ≡ true
       go Less h = both_and e f
       go Equal h = f
       go Greater h = h
@@ -50,7 +50,7 @@ module _ (test : List ℕ → List SstId → Bool) where
   one_all p xs u [] e f = both_and e refl
   one_all p xs u (g ∷ gs) e f = let w = and_both (group_passes g) (all_of group_passes gs) f in go (key_order p xs g.path g.ids) (both_and w.0 (one_all p xs u gs e w.1))
     where
-      go : (r : Order) → all_of group_passes (g ∷ group_entered p xs u gs) ≡ true → all_of group_passes (by_order r (alone p xs u ∷ g ∷ gs) (joined_by g u ∷ gs) (g ∷ group_entered p xs u gs)) ≡ true
+      go : (r : Ordering) → all_of group_passes (g ∷ group_entered p xs u gs) ≡ true → all_of group_passes (by_order r (alone p xs u ∷ g ∷ gs) (joined_by g u ∷ gs) (g ∷ group_entered p xs u gs)) ≡ true
       go Less h = both_and e f
       go Equal h = f
       go Greater h = h

@@ -1,4 +1,5 @@
 -- THE UNION OF LAWFUL SOURCES IS LAWFUL, where refusals 14 and 4 are not given. Assumes nothing.
+use Rattle.std.specs.Prelude.{Err, Ok}
 use Prim.Native.Nat.{ℕ}
 use mathlib.Core.Path.{◌≡◌, refl, sym}
 use mathlib.Core.Bool.{Bool, true, false, not, true≢false}
@@ -11,7 +12,6 @@ use Rattle.records.specs.declared.Limits.{Limits}
 use Rattle.measure.specs.Tests.{all_of}
 use Rattle.measure.specs.Within.{short, within}
 use Rattle.lawful.specs.Law.{l2_of, l3_of, l4_of, l5_of}
-use Rattle.lawful.specs.declared.Judged.TheVariants.{Lawful, Breaks}
 use Rattle.segments.proofs.Places.{and_both}
 use Rattle.merge.proofs.Keeping.{both_and}
 use Rattle.unite_ranges.specs.Arranged.{whats}
@@ -41,7 +41,7 @@ pub laws_of : (lim : Limits) (m : Manifest) → is_lawful (judged_as lim m) ≡ 
 laws_of lim m h = go (within lim m) (l2_of m) (l3_of m) (l4_of m) (l5_of m) refl refl refl refl refl h
   where
     go : (a b c d e : Bool) → within lim m ≡ a → l2_of m ≡ b → l3_of m ≡ c → l4_of m ≡ d → l5_of m ≡ e
-        → is_lawful (pick (not a) (Breaks 1) (pick (not b) (Breaks 2) (pick (not c) (Breaks 3) (pick (not d) (Breaks 4) (pick (not e) (Breaks 5) Lawful))))) ≡ true → Laws lim m
+        → is_lawful (pick (not a) (Err 1) (pick (not b) (Err 2) (pick (not c) (Err 3) (pick (not d) (Err 4) (pick (not e) (Err 5) (Ok tt)))))) ≡ true → Laws lim m
     go true true true true true p q r s t h = record { first = p; second = q; third = r; fourth = s; fifth = t }
     go true true true true false p q r s t h = absurd (true≢false (sym h))
     go true true true false e p q r s t h = absurd (true≢false (sym h))
@@ -49,7 +49,7 @@ laws_of lim m h = go (within lim m) (l2_of m) (l3_of m) (l4_of m) (l5_of m) refl
     go true false c d e p q r s t h = absurd (true≢false (sym h))
     go false b c d e p q r s t h = absurd (true≢false (sym h))
 
-pub laws_judged : (lim : Limits) (m : Manifest) → Laws lim m → judged_as lim m ≡ Lawful
+pub laws_judged : (lim : Limits) (m : Manifest) → Laws lim m → judged_as lim m ≡ Ok tt
 laws_judged lim m w = rw (w.first, w.second, w.third, w.fourth, w.fifth)
 
 module _ (lim : Limits) (ss us : List Source) (fresh : List Uuid) (e : all_of (lawful_source lim) ss ≡ true) (h : all_of (lawful_source lim) us ≡ true)

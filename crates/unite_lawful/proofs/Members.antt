@@ -6,8 +6,8 @@ use mathlib.Core.List.{List, [], ◌∷◌}
 use lib.Dec.{ltb}
 use Rattle.keys.specs.Key.{order_of, is_less, is_equal}
 use Rattle.keys.specs.Meet.{or_else}
-use Rattle.keys.specs.declared.Order.{Order}
-use Rattle.keys.specs.declared.Order.TheVariants.{Less, Equal, Greater}
+use Rattle.std.specs.declared.cmp.Ordering.{Ordering}
+use Rattle.std.specs.declared.cmp.Ordering.TheVariants.{Less, Equal, Greater}
 use Rattle.keys.proofs.Says.{says_lt, says_true}
 use Rattle.keys.proofs.ByteOrder.{stands, of_same}
 use Rattle.ids.specs.Id.{sst_bytes}
@@ -35,7 +35,7 @@ whole_of (x ∷ xs) e =
     let v = and_both (ltb x.0 (2 ^ 64)) (ltb x.1 (2 ^ 64)) w.0 in
     both (says_true (says_lt x.0 (2 ^ 64)) v.0) (says_true (says_lt x.1 (2 ^ 64)) v.1) (whole_of xs w.1)
 
-both_equal : (r s : Order) → or_else r s ≡ Equal → (r ≡ Equal) × (s ≡ Equal)
+both_equal : (r s : Ordering) → or_else r s ≡ Equal → (r ≡ Equal) × (s ≡ Equal)
 both_equal Less s e = absurd (true≢false (ap is_less e))
 both_equal Equal s e = (refl, e)
 both_equal Greater s e = absurd (true≢false (sym (ap is_equal e)))
@@ -68,7 +68,7 @@ module _ (test : List ℕ → List SstId → Bool) where
       let w = and_both (whole_group g) (all_of whole_group gs) b in
       go (key_order p xs g.path g.ids) refl w.0 (entered_some p xs u gs a w.1)
     where
-      go : (r : Order) → key_order p xs g.path g.ids ≡ r → whole_group g ≡ true → some_of (group_passes test) (group_entered p xs u gs) ≡ (test p xs || some_of (group_passes test) gs)
+      go : (r : Ordering) → key_order p xs g.path g.ids ≡ r → whole_group g ≡ true → some_of (group_passes test) (group_entered p xs u gs) ≡ (test p xs || some_of (group_passes test) gs)
           → some_of (group_passes test) (by_order r (alone p xs u ∷ g ∷ gs) (joined_by g u ∷ gs) (g ∷ group_entered p xs u gs)) ≡ (test p xs || (group_passes test g || some_of (group_passes test) gs))
       go Less e c ih = refl
       go Equal e c ih =

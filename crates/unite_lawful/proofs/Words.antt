@@ -1,4 +1,5 @@
 -- THE IDS IN LENT TABLES are as words hold them, so what the union answers on lent tables owns nothing. Assumes nothing.
+use Rattle.std.specs.Prelude.{Ok}
 use Prim.Native.Nat.{ℕ, zero, suc, ◌+◌, ◌*◌, ◌/◌, ◌^◌, ◌<◌}
 use mathlib.Core.Path.{◌≡◌, refl, ap, ◌∙◌}
 use mathlib.Core.Bool.{Bool, true}
@@ -29,7 +30,6 @@ use Rattle.unite_sources.specs.Rows.{manifest_at_word, source_at_word, sources_i
 use Rattle.unite_sources.proofs.Results.{used_all}
 use Rattle.unite.specs.United.{united_of}
 use Rattle.unite.specs.Answer.{union_in}
-use Rattle.unite.specs.declared.United.TheVariants.{Done}
 use Rattle.unite_lawful.specs.Naming.{whole_id, whole_source}
 use Rattle.unite_lawful.proofs.Used.{owns_nothing}
 use Rattle.unite_lawful.proofs.Tables.{union_stands}
@@ -106,6 +106,6 @@ united_owns_nothing ss fresh e = owns_nothing ss (whats (in_order ss)) fresh (us
 
 -- what the union answers on lent tables borrows every id that its views use
 pub union_owns_nothing : (lim : Limits) (l : Lent) (t fresh : List ℕ) (work : Bool) (o : Lent) (row : ManifestRow) → ((i : ℕ) → at l.views i < 2 ^ 64) → ((i : ℕ) → at l.ids i < 2 ^ 64)
-    → (union_in lim l t fresh work o).answer ≡ Done row → owned_of (manifest_in (union_in lim l t fresh work o).out row) ≡ []
+    → (union_in lim l t fresh work o).answer ≡ Ok row → owned_of (manifest_in (union_in lim l t fresh work o).out row) ≡ []
 union_owns_nothing lim l t fresh work o row v i e =
     ap owned_of (union_stands lim l t fresh work o row e).0 ∙ united_owns_nothing (sources_in l t (length t / 22)) (uuids_of fresh) (sources_whole l v i t (length t / 22))

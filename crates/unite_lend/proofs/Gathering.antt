@@ -1,4 +1,5 @@
 -- The members of all used sources, source by source. Assumes nothing.
+use Rattle.std.specs.Prelude.{Err, Ok, Result}
 use Prim.Native.Nat.{ℕ, zero, suc, ◌+◌, ◌*◌, ◌≤◌, ◌<◌}
 use mathlib.Core.Path.{◌≡◌, refl, sym, ap, ◌∙◌}
 use mathlib.Core.Bool.{Bool, true}
@@ -17,8 +18,6 @@ use Rattle.records.specs.Decode.{Lent}
 use Rattle.records.specs.declared.Limits.{Limits}
 use Rattle.measure.specs.Tests.{all_below}
 use Rattle.lawful.specs.Judge.{judged_of}
-use Rattle.lawful.specs.declared.Judged.{Judged}
-use Rattle.lawful.specs.declared.Judged.TheVariants.{Lawful, Breaks}
 use Rattle.borrows.proofs.Lawfully.{both}
 use Rattle.unite_groups.specs.Groups.{Member}
 use Rattle.unite_groups.specs.Chosen.{Supply}
@@ -31,15 +30,15 @@ use Rattle.unite_lend.proofs.Grouping.{entered_append}
 
 -- ---- what is sound
 
-lawful_is : (j : Judged) → is_lawful j ≡ true → j ≡ Lawful
-lawful_is Lawful e = refl
-lawful_is (Breaks rule) e = let z : ◌≡◌ {A = ℕ} 0 1 = cc in absurd (omega arith)
+lawful_is : (j : Result Unit ℕ) → is_lawful j ≡ true → j ≡ Ok tt
+lawful_is (Ok _) e = refl
+lawful_is (Err rule) e = let z : ◌≡◌ {A = ℕ} 0 1 = cc in absurd (omega arith)
 
 pub sound_in : (lim : Limits) (l : Lent) (t : List ℕ) (b : ℕ) → sound_at lim l t b ≡ true → b + 22 ≤ length t
 unfolding sound_at
 sound_in lim l t b h = leb-true (b + 22) (length t) (both (leb (b + 22) (length t)) (is_lawful (judged_of lim l (manifest_at_word t b))) h).0
 
-pub sound_lawful : (lim : Limits) (l : Lent) (t : List ℕ) (b : ℕ) → sound_at lim l t b ≡ true → judged_of lim l (manifest_at_word t b) ≡ Lawful
+pub sound_lawful : (lim : Limits) (l : Lent) (t : List ℕ) (b : ℕ) → sound_at lim l t b ≡ true → judged_of lim l (manifest_at_word t b) ≡ Ok tt
 unfolding sound_at
 sound_lawful lim l t b h = lawful_is (judged_of lim l (manifest_at_word t b)) (both (leb (b + 22) (length t)) (is_lawful (judged_of lim l (manifest_at_word t b))) h).1
 
@@ -48,7 +47,7 @@ module _ (lim : Limits) (l : Lent) (t : List ℕ) (b x : ℕ) (e : b ≡ x) wher
   pub word_in : sound_at lim l t x ≡ true → b + 22 ≤ length t
   word_in h = rw e (sound_in lim l t x h)
 
-  pub word_lawful : sound_at lim l t x ≡ true → judged_of lim l (manifest_at_word t b) ≡ Lawful
+  pub word_lawful : sound_at lim l t x ≡ true → judged_of lim l (manifest_at_word t b) ≡ Ok tt
   word_lawful h = rw e (sound_lawful lim l t x h)
 
   pub word_entered : (ss : List Supply) (gs ms : List Member) → ms ≡ entered_from ss gs (source_members (source_at_word l t b)) → ms ≡ entered_from ss gs (source_members (source_at_word l t x))

@@ -1,4 +1,5 @@
 -- The members of one source: how many there are, and how they are entered. Assumes nothing.
+use Rattle.std.specs.Prelude.{Ok}
 use Prim.Native.Nat.{ℕ, ◌+◌, ◌-◌, ◌*◌, ◌/◌, ◌^◌, ◌≤◌, ◌<◌}
 use mathlib.Core.Path.{◌≡◌, refl, sym, ap, ◌∙◌}
 use mathlib.Core.List.{List, [], ◌∷◌, ◌++◌}
@@ -23,7 +24,6 @@ use Rattle.records.specs.declared.ManifestRow.{ManifestRow}
 use Rattle.records.proofs.Columns.{borrows_fill}
 use Rattle.measure.proofs.Fits.{Under, under}
 use Rattle.lawful.specs.Judge.{judged_of}
-use Rattle.lawful.specs.declared.Judged.TheVariants.{Lawful}
 use Rattle.borrows.specs.Owned.{owned_of}
 use Rattle.borrows.specs.Places.{put_from}
 use Rattle.borrows.proofs.Putting.{put_laid, put_long}
@@ -52,7 +52,7 @@ take_front (x ∷ xs) ys n e = rw e (ap (λ (z : List ℕ). x ∷ z) (take_front
 
 -- ---- how many
 
-module _ (lim : Limits) (l : Lent) (t : List ℕ) (b : ℕ) (h : judged_of lim l (manifest_at_word t b) ≡ Lawful) where
+module _ (lim : Limits) (l : Lent) (t : List ℕ) (b : ℕ) (h : judged_of lim l (manifest_at_word t b) ≡ Ok tt) where
   abbrev row : ManifestRow
   row = manifest_at_word t b
 

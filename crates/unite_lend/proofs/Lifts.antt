@@ -1,4 +1,5 @@
 -- From rows to sources: each used source is sound where all sources are lawful. Assumes nothing.
+use Rattle.std.specs.Prelude.{Err, Ok, Result}
 use Prim.Native.Nat.{ℕ, zero, suc, ◌+◌, ◌*◌, ◌≤◌}
 use mathlib.Core.Path.{◌≡◌, refl, sym, ap, ◌∙◌}
 use mathlib.Core.Bool.{Bool, true, false}
@@ -17,8 +18,6 @@ use Rattle.records.specs.declared.Limits.{Limits}
 use Rattle.measure.specs.Tests.{all_of, all_below}
 use Rattle.measure.proofs.Lists.{all_up_to}
 use Rattle.lawful.specs.Judge.{judged_of}
-use Rattle.lawful.specs.declared.Judged.{Judged}
-use Rattle.lawful.specs.declared.Judged.TheVariants.{Lawful, Breaks}
 use Rattle.borrows.proofs.Lawfully.{both}
 use Rattle.unite_ranges.specs.Bounding.{Bounding, none, spans, bounding_of}
 use Rattle.unite_ranges.specs.Arranged.{Ranged, entered, arranged_from, arranged, whats}
@@ -61,25 +60,25 @@ module _ {A : Type 0} (p : A → Bool) where
 
 -- ---- lawful sources are sound
 
-then_both : (a b : Judged) → and_then a b ≡ Lawful → (a ≡ Lawful) × (b ≡ Lawful)
-then_both Lawful b e = (refl, e)
-then_both (Breaks rule) b e = let z : ◌≡◌ {A = ℕ} 0 1 = cc in absurd (omega arith)
+then_both : (a b : Result Unit ℕ) → and_then a b ≡ Ok tt → (a ≡ Ok tt) × (b ≡ Ok tt)
+then_both (Ok _) b e = (refl, e)
+then_both (Err rule) b e = let z : ◌≡◌ {A = ℕ} 0 1 = cc in absurd (omega arith)
 
-picked : (c : Bool) (j : Judged) → pick c j (Breaks 1) ≡ Lawful → j ≡ Lawful
+picked : (c : Bool) (j : Result Unit ℕ) → pick c j (Err 1) ≡ Ok tt → j ≡ Ok tt
 picked true j e = e
 picked false j e = let z : ◌≡◌ {A = ℕ} 0 1 = cc in absurd (omega arith)
 
 module _ (lim : Limits) (l : Lent) (t : List ℕ) where
-  all_sound : (n : ℕ) → n * 22 ≤ length t → sources_judged lim l t n ≡ Lawful → all_below (λ k. sound_at lim l t (k * 22)) n ≡ true
+  all_sound : (n : ℕ) → n * 22 ≤ length t → sources_judged lim l t n ≡ Ok tt → all_below (λ k. sound_at lim l t (k * 22)) n ≡ true
   unfolding sound_at
   all_sound zero h e = refl
   all_sound (suc n) h e =
       let q = then_both (sources_judged lim l t n) (source_judged lim l t (n * 22)) e in
       let r : leb (n * 22 + 22) (length t) ≡ true = le-leb (n * 22 + 22) (length t) (omega arith) in
-      let s : judged_of lim l (manifest_at_word t (n * 22)) ≡ Lawful = picked (codes_known t (n * 22)) (judged_of lim l (manifest_at_word t (n * 22))) q.1 in
+      let s : judged_of lim l (manifest_at_word t (n * 22)) ≡ (Ok tt) = picked (codes_known t (n * 22)) (judged_of lim l (manifest_at_word t (n * 22))) q.1 in
       rw (all_sound n (omega arith) q.0, r, s)
 
-  pub used_sound : (pool rows : List ℕ) (k n : ℕ) → n * 22 ≤ length t → sources_judged lim l t n ≡ Lawful
+  pub used_sound : (pool rows : List ℕ) (k n : ℕ) → n * 22 ≤ length t → sources_judged lim l t n ≡ Ok tt
       → ranged_in pool rows k ≡ arranged (ranged_by (views_at_word l.segments l.runs l.views l.pool t) (words_of n)) → sound_below lim l t rows k ≡ true
   unfolding begins words_of whats
   used_sound pool rows k n h j e =

@@ -1,6 +1,6 @@
 -- The used sources as the code holds them: rows of seven words, the first the word at which the source's row begins. What the union asks of
 -- them besides their trees. No public promise speaks of it.
-use Rattle.std.specs.Prelude.{ℕ, zero, suc, ◌+◌, ◌*◌, ◌/◌, Bool, true, false, ◌&&◌, ◌||◌, List, [], ◌∷◌, ◌++◌, ltb, leb, length}
+use Rattle.std.specs.Prelude.{ℕ, zero, suc, ◌+◌, ◌*◌, ◌/◌, Bool, true, false, ◌&&◌, ◌||◌, List, [], ◌∷◌, ◌++◌, ltb, leb, length, Err, Ok, Result}
 use Rattle.tables.specs.Layout.{joined}
 use Rattle.tables.specs.Window.{held_of}
 use Rattle.records.specs.Row.{at, window_at}
@@ -8,8 +8,6 @@ use Rattle.records.specs.Decode.{Lent, borrows_in}
 use Rattle.records.specs.declared.Limits.{Limits}
 use Rattle.measure.specs.Tests.{all_below}
 use Rattle.lawful.specs.Judge.{judged_of}
-use Rattle.lawful.specs.declared.Judged.{Judged}
-use Rattle.lawful.specs.declared.Judged.TheVariants.{Lawful, Breaks}
 use Rattle.borrows.specs.Owned.{owned_of}
 use Rattle.borrows.specs.Clone.{refuses15}
 use Rattle.unite_groups.specs.Groups.{Member}
@@ -45,9 +43,9 @@ unfoldable pub members_at : Lent → List ℕ → List ℕ → ℕ → List Memb
 members_at l t rows n = joined (λ b. source_members (source_at_word l t b)) (begins rows n)
 
 -- a source whose row stands in the table, and that is lawful
-abbrev pub is_lawful : Judged → Bool
-is_lawful Lawful = true
-is_lawful (Breaks rule) = false
+abbrev pub is_lawful : Result Unit ℕ → Bool
+is_lawful (Ok _) = true
+is_lawful (Err rule) = false
 
 unfoldable pub sound_at : Limits → Lent → List ℕ → ℕ → Bool
 sound_at lim l t b = leb (b + 22) (length t) && is_lawful (judged_of lim l (manifest_at_word t b))

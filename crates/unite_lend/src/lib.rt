@@ -9,7 +9,6 @@ ghost use Rattle.records.specs.Row.{at, place_at};
 ghost use Rattle.records.specs.Decode.{manifest_in};
 ghost use Rattle.borrows.specs.Owned.{owned_of};
 ghost use Rattle.lawful.specs.Judge.{judged_of};
-ghost use Rattle.lawful.specs.declared.Judged.TheVariants.{Lawful};
 ghost use Rattle.unite_groups.specs.Rows.{members_in, end_by, supplies_in, entered_from};
 ghost use Rattle.unite_sources.specs.Rows.{manifest_at_word, source_at_word, begins};
 ghost use Rattle.unite_judge.specs.Judging.{most_sources};
@@ -18,7 +17,7 @@ ghost use Rattle.unite_lend.specs.Used.{some_below, lacks_at, segmented_at, supp
 use borrows::{lacks_final, own_all};
 use ids::Uuid;
 use records::{Limits, Place, place_at};
-use tables::{held, ix, put_words};
+use tables::{held, ix, put};
 use unite_groups::{Grouped, group_borrows, group_owned};
 use unite_judge::source_manifest;
 use unite_sources::{window_in, word_at};
@@ -40,12 +39,10 @@ pub fn used_lack_final(sources: &[u64], order: &[u64], n: usize, borrows: &[u64]
     requires { n * 7 ≤ length order.now }
     ensures { result ≡ some_below (lacks_at borrows.now sources.now order.now) n }
 {
-    let mut i = 0;
-    while i < n {
+    for i in 0..n {
         if lacks_at(sources, order, i, borrows) {
             return true;
         }
-        i += 1;
     }
     false
 }
@@ -66,12 +63,10 @@ pub fn used_segmented(sources: &[u64], order: &[u64], n: usize, segments: &[u64]
     requires { n * 7 ≤ length order.now }
     ensures { result ≡ some_below (segmented_at segments.now sources.now order.now) n }
 {
-    let mut i = 0;
-    while i < n {
+    for i in 0..n {
         if segmented_at(sources, order, i, segments) {
             return true;
         }
-        i += 1;
     }
     false
 }
@@ -90,7 +85,7 @@ fn put_supply(sources: &[u64], order: &[u64], i: usize, supplies: &mut [u64])
         word_at(sources, b, 20),
         word_at(sources, b, 21),
     ];
-    put_words(&row, supplies, i * 4);
+    put(&row, supplies, i * 4);
 }
 
 // Puts the path and the checkpoint of each of the first `n` used sources.
@@ -100,10 +95,8 @@ pub fn put_supplies(sources: &[u64], order: &[u64], n: usize, supplies: &mut [u6
     requires n_in_bounds_2 { n * 4 ≤ length supplies.old }
     ensures { supplies.new ≡ write supplies.old 0 (joined (supply_words sources.now) (begins order.now n)) }
 {
-    let mut i = 0;
-    while i < n {
+    for i in 0..n {
         put_supply(sources, order, i, supplies);
-        i += 1;
     }
 }
 
@@ -146,7 +139,7 @@ fn list_owned(
     owned: &mut [u64],
 ) -> usize
     requires b_in_bounds { b + 22 ≤ length sources.now }
-    requires b_value { judged_of lim (record { segments = segments.now; views = views.now; runs = runs.now; borrows = borrows.now; ids = ids.now; pool = pool.now }) (manifest_at_word sources.now b) ≡ Lawful }
+    requires b_value { judged_of lim (record { segments = segments.now; views = views.now; runs = runs.now; borrows = borrows.now; ids = ids.now; pool = pool.now }) (manifest_at_word sources.now b) ≡ Ok tt }
     requires views_in_bounds { lim.fill.views * 2 ≤ length owned.old }
     ensures owned_after { ids_of (take (result * 2) owned.new) ≡ owned_of (manifest_in (record { segments = segments.now; views = views.now; runs = runs.now; borrows = borrows.now; ids = ids.now; pool = pool.now }) (manifest_at_word sources.now b)) }
     ensures result_in_bounds { result * 2 ≤ length owned.new }
@@ -176,7 +169,7 @@ fn group_own(
     g: Grouped,
 ) -> Grouped
     requires b_in_bounds { b + 22 ≤ length sources.now }
-    requires b_value { judged_of lim (record { segments = segments.now; views = views.now; runs = runs.now; borrows = borrows.now; ids = ids.now; pool = pool.now }) (manifest_at_word sources.now b) ≡ Lawful }
+    requires b_value { judged_of lim (record { segments = segments.now; views = views.now; runs = runs.now; borrows = borrows.now; ids = ids.now; pool = pool.now }) (manifest_at_word sources.now b) ≡ Ok tt }
     requires n_in_bounds { n * 4 ≤ length supplies.now }
     requires views_in_bounds { lim.fill.views * 2 ≤ length owned.old }
     requires groups_value { end_by g.ids groups.old g.groups ≡ true }
@@ -218,7 +211,7 @@ fn group_source(
     g: Grouped,
 ) -> Grouped
     requires b_in_bounds { b + 22 ≤ length sources.now }
-    requires b_value { judged_of lim (record { segments = segments.now; views = views.now; runs = runs.now; borrows = borrows.now; ids = ids.now; pool = pool.now }) (manifest_at_word sources.now b) ≡ Lawful }
+    requires b_value { judged_of lim (record { segments = segments.now; views = views.now; runs = runs.now; borrows = borrows.now; ids = ids.now; pool = pool.now }) (manifest_at_word sources.now b) ≡ Ok tt }
     requires n_in_bounds { n * 4 ≤ length supplies.now }
     requires views_in_bounds { lim.fill.views * 2 ≤ length owned.old }
     requires groups_value { end_by g.ids groups.old g.groups ≡ true }
@@ -310,13 +303,11 @@ pub fn group_sources(
     ensures result_in_bounds { result * 6 ≤ length groups.new }
 {
     let mut g = Grouped { groups: 0, ids: 0 };
-    let mut i = 0;
-    while i < n {
+    for i in 0..n {
         g = group_at(
             lim, sources, order, i, segments, views, runs, borrows, ids, pool, supplies, n, owned,
             groups, work, g,
         );
-        i += 1;
     }
     g.groups
 }

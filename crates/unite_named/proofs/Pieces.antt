@@ -1,4 +1,5 @@
 -- The segment of one prefix as the code finds it, and those of all; what they fill. Assumes nothing.
+use Rattle.std.specs.Prelude.{None, Option, Some}
 use Prim.Native.Nat.{ℕ, ◌*◌}
 use mathlib.Core.Path.{◌≡◌, refl, sym, ap, ◌∙◌}
 use mathlib.Core.Bool.{Bool, true}
@@ -16,8 +17,6 @@ use Rattle.records.specs.declared.Place.{Place}
 use Rattle.records.proofs.Sums.{fill_same, plus_empty}
 use Rattle.measure.specs.Within.{tree_views}
 use Rattle.measure.specs.Walk.{add_of}
-use Rattle.measure.specs.declared.Measured.{Measured}
-use Rattle.measure.specs.declared.Measured.TheVariants.{Broken, Fills}
 use Rattle.project_views.proofs.Many.{all, sum_many}
 use Rattle.project_views.proofs.Summed.{added_none, added_broken, added_on}
 use Rattle.unite_ranges.specs.Arranged.{Ranged, arranged, some_overlap, whats}
@@ -113,7 +112,7 @@ pieces_sum segments views runs pool sources order n prefixes np =
 
 -- ---- a segment added: its tree, then its row and its prefix
 
-module _ (most c : Fill) (s : Segment) (u : Measured) (p : u ≡ add_of most c (tree_fill s.tree)) where
+module _ (most c : Fill) (s : Segment) (u : Option Fill) (p : u ≡ add_of most c (tree_fill s.tree)) where
   abbrev front : ℕ → Fill
   front n = record { segments = 1; views = 0; runs = 0; borrows = 0; ids = 0; bytes = n }
 
@@ -121,16 +120,16 @@ module _ (most c : Fill) (s : Segment) (u : Measured) (p : u ≡ add_of most c (
   unfolding segment_fill
   parts = fill_same (omega arith)
 
-  pub segment_broken : u ≡ Broken → Broken ≡ add_of most c (segment_fill s)
+  pub segment_broken : u ≡ None → None ≡ add_of most c (segment_fill s)
   segment_broken k = added_broken most c (tree_fill s.tree) (front (length s.prefix)) (segment_fill s) parts u p k
 
-  pub segment_added : (d : Fill) (k : List ℕ) (q : Measured) → u ≡ Fills d → k ≡ s.prefix → q ≡ add_of most d (front (length k)) → q ≡ add_of most c (segment_fill s)
+  pub segment_added : (d : Fill) (k : List ℕ) (q : Option Fill) → u ≡ Some d → k ≡ s.prefix → q ≡ add_of most d (front (length k)) → q ≡ add_of most c (segment_fill s)
   segment_added d k q g i j =
       added_on most c (tree_fill s.tree) (front (length s.prefix)) (segment_fill s) parts u d q p g (j ∙ ap (λ (l : List ℕ). add_of most d (front (length l))) i)
 
 module _ (most c : Fill) (xs : List Segment) where
-  pub added_nothing : fits c most ≡ true → xs ≡ [] → Fills c ≡ add_of most c (sum segment_fill xs)
+  pub added_nothing : fits c most ≡ true → xs ≡ [] → Some c ≡ add_of most c (sum segment_fill xs)
   added_nothing h e = added_none most c h ∙ sym (ap (λ (l : List Segment). add_of most c (sum segment_fill l)) e)
 
-  pub added_one : (s : Segment) (q : Measured) → xs ≡ s ∷ [] → q ≡ add_of most c (segment_fill s) → q ≡ add_of most c (sum segment_fill xs)
+  pub added_one : (s : Segment) (q : Option Fill) → xs ≡ s ∷ [] → q ≡ add_of most c (segment_fill s) → q ≡ add_of most c (sum segment_fill xs)
   added_one s q e h = h ∙ ap (add_of most c) (sym (plus_empty (segment_fill s))) ∙ sym (ap (λ (l : List Segment). add_of most c (sum segment_fill l)) e)

@@ -3,7 +3,6 @@
 
 ghost use Rattle.std.specs.Prelude.{◌≡◌, true, ◌+◌, ◌*◌, ◌≤◌, length};
 ghost use Rattle.tables.specs.Layout.{write, joined};
-ghost use Rattle.records.specs.Row.{place_at};
 ghost use Rattle.records.specs.Decode.{bytes_in};
 ghost use Rattle.records.specs.Words.{segment_words};
 ghost use Rattle.records.specs.Fill.{plus, sum, fits, tree_fill, segment_fill};
@@ -18,24 +17,11 @@ ghost use Rattle.unite_named.specs.Steps.{prefix_in, piece_in, joined_as, number
 
 use emit::{put_prefix, put_segment_row};
 use keys::part;
-use measure::{Measured, add, fits_in};
-use records::{Fill, Place};
-use tables::ix;
+use measure::{add, fits_in};
+use records::{Fill, Place, place_at};
 use unite_ranges::ranges_overlap;
 use unite_sources::shares_at;
 use unite_trees::{measure_joined, put_joined};
-
-// Prefix `i` of a list of places.
-fn place_at(prefixes: &[u64], i: usize) -> Place
-    requires { (i + 1) * 2 ≤ length prefixes.now }
-    ensures { result ≡ place_at prefixes.now (i * 2) }
-{
-    let b = i * 2;
-    Place {
-        at: ix(prefixes[b]),
-        len: ix(prefixes[b + 1]),
-    }
-}
 
 // ---- whether shares overlap
 
@@ -58,7 +44,7 @@ fn overlaps_at(
     ensures value { result ≡ some_overlap (shares_in (tree_tables segments.now views.now runs.now pool.now) sources.now (begins order.now n) (prefix_in prefixes.now pool.now i)) }
     ensures shares_len_unchanged { length shares.new ≡ length shares.old }
 {
-    let p = place_at(prefixes, i);
+    let p = place_at(prefixes, i * 2);
     let m = shares_at(sources, order, n, p, segments, runs, views, pool, shares);
     ranges_overlap(shares, m, pool)
 }
@@ -83,16 +69,14 @@ pub fn first_overlap(
     ensures value { result ≡ overlap_at (tree_tables segments.now views.now runs.now pool.now) sources.now (begins order.now n) (places_in prefixes.now pool.now np) }
     ensures shares_len_unchanged { length shares.new ≡ length shares.old }
 {
-    let mut k = 0;
-    while k < np {
+    for k in 0..np {
         if overlaps_at(
             sources, order, n, prefixes, k, segments, views, runs, pool, shares,
         ) {
             return k;
         }
-        k += 1;
     }
-    k
+    np
 }
 
 // ---- measured
@@ -108,14 +92,11 @@ fn add_segment(
     runs: &[u64],
     pool: &[u8],
     c: Fill,
-) -> Measured
+) -> Option<Fill>
     requires { n * 7 ≤ length rows.now }
     ensures { result ≡ add_of most c (segment_fill (joined_as (bytes_in pool.now p) (trees_in segments.now rows.now n runs.now views.now pool.now))) }
 {
-    let s = measure_joined(most, segments, rows, n, runs, views, pool, c);
-    let Measured::Fills(d) = s else {
-        return Measured::Broken;
-    };
+    let d = measure_joined(most, segments, rows, n, runs, views, pool, c)?;
     let k = part(pool, p.at, p.len).len();
     add(
         most,
@@ -145,7 +126,7 @@ fn add_segment_at(
     pool: &[u8],
     shares: &mut [u64],
     c: Fill,
-) -> Measured
+) -> Option<Fill>
     requires n_in_bounds { n * 7 ≤ length order.now }
     requires n_in_bounds_2 { n * 7 ≤ length shares.old }
     requires i_in_bounds { (i + 1) * 2 ≤ length prefixes.now }
@@ -153,10 +134,10 @@ fn add_segment_at(
     ensures value { result ≡ add_of most c (sum segment_fill (piece_in segments.now views.now runs.now pool.now sources.now order.now n prefixes.now i)) }
     ensures shares_len_unchanged { length shares.new ≡ length shares.old }
 {
-    let p = place_at(prefixes, i);
+    let p = place_at(prefixes, i * 2);
     let m = shares_at(sources, order, n, p, segments, runs, views, pool, shares);
     if m == 0 {
-        return Measured::Fills(c);
+        return Some(c);
     }
     add_segment(most, p, shares, m, segments, views, runs, pool, c)
 }
@@ -176,7 +157,7 @@ pub fn measure_named(
     pool: &[u8],
     shares: &mut [u64],
     c: Fill,
-) -> Measured
+) -> Option<Fill>
     requires n_in_bounds { n * 7 ≤ length order.now }
     requires n_in_bounds_2 { n * 7 ≤ length shares.old }
     requires np_in_bounds { np * 2 ≤ length prefixes.now }
@@ -184,21 +165,15 @@ pub fn measure_named(
     ensures shares_len_unchanged { length shares.new ≡ length shares.old }
 {
     if !fits_in(c, most) {
-        return Measured::Broken;
+        return None;
     }
     let mut d = c;
-    let mut k = 0;
-    while k < np {
-        let s = add_segment_at(
+    for k in 0..np {
+        d = add_segment_at(
             most, sources, order, n, prefixes, k, segments, views, runs, pool, shares, d,
-        );
-        let Measured::Fills(e) = s else {
-            return Measured::Broken;
-        };
-        d = e;
-        k += 1;
+        )?;
     }
-    Measured::Fills(d)
+    Some(d)
 }
 
 // ---- laid
@@ -235,12 +210,11 @@ fn put_one(
     let laid = put_joined(
         segments, rows, n, left, runs, views, pool, out_runs, out_views, out_pool, a,
     );
-    let tree = laid.tree;
     let prefix = Place {
         at: c.bytes,
         len: a.bytes - c.bytes,
     };
-    put_segment_row(prefix, tree, out_segments, c.segments);
+    put_segment_row(prefix, laid.tree, out_segments, c.segments);
     laid.past
 }
 
@@ -278,7 +252,7 @@ fn put_one_at(
     ensures out_pool_after { out_pool.new ≡ write out_pool.old c.bytes (joined segment_bytes (numbered_segments left (piece_in segments.now views.now runs.now pool.now sources.now order.now n prefixes.now i))) }
     ensures shares_len_unchanged { length shares.new ≡ length shares.old }
 {
-    let p = place_at(prefixes, i);
+    let p = place_at(prefixes, i * 2);
     let m = shares_at(sources, order, n, p, segments, runs, views, pool, shares);
     if m == 0 {
         return c;
@@ -335,8 +309,7 @@ pub fn put_named(
     ensures out_pool_after { out_pool.new ≡ write out_pool.old c.bytes (joined segment_bytes (numbered_segments left (segments_at (tree_tables segments.now views.now runs.now pool.now) sources.now (begins order.now n) (places_in prefixes.now pool.now np)))) }
 {
     let mut to = c;
-    let mut k = 0;
-    while k < np {
+    for k in 0..np {
         let rest = left - (to.runs - c.runs);
         to = put_one_at(
             sources,
@@ -356,7 +329,6 @@ pub fn put_named(
             out_pool,
             to,
         );
-        k += 1;
     }
     to
 }

@@ -17,8 +17,8 @@ ghost use Rattle.unite.specs.United.{members_of, supplies_of, borrows_united, as
 ghost use Rattle.unite.specs.Answer.{union_to};
 ghost use Rattle.unite_plain.specs.By.{used_in, union_by};
 
-use records::{Limits, Refusal};
-use unite::{United, given_plain};
+use records::{Limits, ManifestRow, Refusal};
+use unite::given_plain;
 use unite_lend::{group_sources, put_supplies, used_lack_final, used_segmented};
 use unite_ranges::ranges_overlap;
 
@@ -79,7 +79,7 @@ fn grouped_plain(
     out_borrows: &mut [u64],
     out_ids: &mut [u64],
     out_pool: &mut [u8],
-) -> United
+) -> Result<ManifestRow, Refusal>
     requires n_le_most_sources { n ≤ most_sources }
     requires n_in_bounds { n * 7 ≤ length order.now }
     requires n_value { sound_below lim (record { segments = segments.now; views = views.now; runs = runs.now; borrows = borrows.now; ids = ids.now; pool = pool.now }) sources.now order.now n ≡ true }
@@ -137,7 +137,7 @@ pub fn union_plain(
     out_borrows: &mut [u64],
     out_ids: &mut [u64],
     out_pool: &mut [u8],
-) -> United
+) -> Result<ManifestRow, Refusal>
     requires n_le_most_sources { n ≤ most_sources }
     requires n_in_bounds { n * 7 ≤ length order.now }
     requires n_value { sound_below lim (record { segments = segments.now; views = views.now; runs = runs.now; borrows = borrows.now; ids = ids.now; pool = pool.now }) sources.now order.now n ≡ true }
@@ -147,13 +147,13 @@ pub fn union_plain(
     ensures { record { answer = result; out = record { segments = out_segments.new; views = out_views.new; runs = out_runs.new; borrows = out_borrows.new; ids = out_ids.new; pool = out_pool.new } } ≡ union_by lim none (used_in (record { segments = segments.now; views = views.now; runs = runs.now; borrows = borrows.now; ids = ids.now; pool = pool.now }) sources.now order.now n) seq (uuids_of fresh.now) (record { segments = out_segments.old; views = out_views.old; runs = out_runs.old; borrows = out_borrows.old; ids = out_ids.old; pool = out_pool.old }) }
 {
     if ranges_overlap(order, n, pool) {
-        return United::Refused(Refusal::Overlap(0));
+        return Err(Refusal::Overlap(0));
     }
     if used_segmented(sources, order, n, segments) {
-        return United::Refused(Refusal::SegmentsUnnamed);
+        return Err(Refusal::SegmentsUnnamed);
     }
     if used_lack_final(sources, order, n, borrows) {
-        return United::Refused(Refusal::NoFinal);
+        return Err(Refusal::NoFinal);
     }
     grouped_plain(
         lim,

@@ -16,8 +16,7 @@ ghost use Rattle.unite.specs.United.{borrows_united, assembled};
 ghost use Rattle.unite.specs.Answer.{union_to};
 ghost use Rattle.unite_plain.specs.By.{used_in, union_by};
 
-use records::{Limits, Place, Refusal};
-use unite::United;
+use records::{Limits, ManifestRow, Place, Refusal};
 use unite_lend::used_lack_final;
 use unite_named::first_overlap;
 use unite_plain::group_used;
@@ -52,7 +51,7 @@ fn grouped_named(
     out_borrows: &mut [u64],
     out_ids: &mut [u64],
     out_pool: &mut [u8],
-) -> United
+) -> Result<ManifestRow, Refusal>
     requires n_le_most_sources { n ≤ most_sources }
     requires n_in_bounds { n * 7 ≤ length order.now }
     requires n_value { sound_below lim (record { segments = segments.now; views = views.now; runs = runs.now; borrows = borrows.now; ids = ids.now; pool = pool.now }) sources.now order.now n ≡ true }
@@ -154,7 +153,7 @@ fn fit_named(
     out_borrows: &mut [u64],
     out_ids: &mut [u64],
     out_pool: &mut [u8],
-) -> United
+) -> Result<ManifestRow, Refusal>
     requires n_le_most_sources { n ≤ most_sources }
     requires n_in_bounds { n * 7 ≤ length order.now }
     requires n_value { sound_below lim (record { segments = segments.now; views = views.now; runs = runs.now; borrows = borrows.now; ids = ids.now; pool = pool.now }) sources.now order.now n ≡ true }
@@ -166,14 +165,14 @@ fn fit_named(
     ensures { record { answer = result; out = record { segments = out_segments.new; views = out_views.new; runs = out_runs.new; borrows = out_borrows.new; ids = out_ids.new; pool = out_pool.new } } ≡ union_by lim (named (bytes_in pool.now name)) (used_in (record { segments = segments.now; views = views.now; runs = runs.now; borrows = borrows.now; ids = ids.now; pool = pool.now }) sources.now order.now n) seq (uuids_of fresh.now) (record { segments = out_segments.old; views = out_views.old; runs = out_runs.old; borrows = out_borrows.old; ids = out_ids.old; pool = out_pool.old }) }
 {
     if prefixes_nest(prefixes, np, pool) {
-        return United::Refused(Refusal::SourcesNest);
+        return Err(Refusal::SourcesNest);
     }
     let k = overlap_place(sources, order, n, prefixes, np, segments, views, runs, pool);
     if k < np {
-        return United::Refused(Refusal::Overlap(k + 1));
+        return Err(Refusal::Overlap(k + 1));
     }
     if used_lack_final(sources, order, n, borrows) {
-        return United::Refused(Refusal::NoFinal);
+        return Err(Refusal::NoFinal);
     }
     grouped_named(
         lim,
@@ -231,7 +230,7 @@ pub fn union_named(
     out_borrows: &mut [u64],
     out_ids: &mut [u64],
     out_pool: &mut [u8],
-) -> United
+) -> Result<ManifestRow, Refusal>
     requires n_le_most_sources { n ≤ most_sources }
     requires n_in_bounds { n * 7 ≤ length order.now }
     requires n_value { sound_below lim (record { segments = segments.now; views = views.now; runs = runs.now; borrows = borrows.now; ids = ids.now; pool = pool.now }) sources.now order.now n ≡ true }
@@ -241,8 +240,15 @@ pub fn union_named(
     requires segments_in_bounds { most_sources * lim.fill.segments * 2 ≤ length prefixes.old }
     ensures { record { answer = result; out = record { segments = out_segments.new; views = out_views.new; runs = out_runs.new; borrows = out_borrows.new; ids = out_ids.new; pool = out_pool.new } } ≡ union_by lim (named (bytes_in pool.now name)) (used_in (record { segments = segments.now; views = views.now; runs = runs.now; borrows = borrows.now; ids = ids.now; pool = pool.now }) sources.now order.now n) seq (uuids_of fresh.now) (record { segments = out_segments.old; views = out_views.old; runs = out_runs.old; borrows = out_borrows.old; ids = out_ids.old; pool = out_pool.old }) }
 {
-    let most = lim.fill.segments;
-    let np = all_prefixes(sources, order, n, segments, pool, most, prefixes);
+    let np = all_prefixes(
+        sources,
+        order,
+        n,
+        segments,
+        pool,
+        lim.fill.segments,
+        prefixes,
+    );
     fit_named(
         lim,
         sources,

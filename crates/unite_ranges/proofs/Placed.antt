@@ -12,8 +12,6 @@ use Rattle.keys.specs.Key.{is_less}
 use Rattle.keys.specs.Range.{Edge, Edges, empty_of}
 use Rattle.keys.specs.Meet.{start_order, meet_of}
 use Rattle.keys.specs.Pool.{edge_of, edges_of, meet_in}
-use Rattle.keys.specs.declared.Order.{Order}
-use Rattle.keys.specs.declared.Order.TheVariants.{Less, Equal, Greater}
 use Rattle.keys.specs.declared.Range.{Range}
 use Rattle.keys.proofs.Meets.{edges_meet}
 use Rattle.tables.specs.Layout.{up_to}
@@ -30,29 +28,13 @@ pub row_back : (pool t : List ℕ) (i what : ℕ) (r : Range) → Holds t (i * 7
 unfolding row_words
 row_back pool t i what r h = simp (add_assoc, holds_head t (i * 7) (row_words what r) h, holds_word t (i * 7) (row_words what r) h, bound_back)
 
--- ---- the order of starts, where the row's range is r
-module _ (pool rows : List ℕ) (i : ℕ) (s : Edge) (o : Order) (r : Range) (q : r ≡ record { start = bound_at rows (i * 7 + 1); end = bound_at rows (i * 7 + 4) })
-    (e : o ≡ start_order s (edge_of pool r.start))
-  where
-    there : o ≡ start_order s (ranged_at pool rows i).range.start
-    there = e ∙ ap (λ (z : Range). start_order s (edge_of pool z.start)) q
-
-    pub row_less : o ≡ Less → true ≡ is_less (start_order s (ranged_at pool rows i).range.start)
-    row_less h = rw (sym there ∙ h)
-
-    pub row_equal : o ≡ Equal → false ≡ is_less (start_order s (ranged_at pool rows i).range.start)
-    row_equal h = rw (sym there ∙ h)
-
-    pub row_greater : o ≡ Greater → false ≡ is_less (start_order s (ranged_at pool rows i).range.start)
-    row_greater h = rw (sym there ∙ h)
-
 pub overlap_is : (pool rows : List ℕ) (i j : ℕ) (a b m : Range) (r : Bool) → a ≡ record { start = bound_at rows (i * 7 + 1); end = bound_at rows (i * 7 + 4) }
     → b ≡ record { start = bound_at rows (j * 7 + 1); end = bound_at rows (j * 7 + 4) } → m ≡ meet_in pool a b → r ≡ empty_of (edge_of pool m.start) (edge_of pool m.end)
     → not r ≡ overlap (ranged_at pool rows i).range (ranged_at pool rows j).range
 overlap_is pool rows i j a b m r p q e h =
     ap not (h ∙ ap (λ (z : Edges). empty_of z.start z.end) (ap (edges_of pool) e ∙ edges_meet pool a b ∙ ap (λ z. meet_of (edges_of pool z) (edges_of pool b)) p ∙ ap (λ z. meet_of (ranged_at pool rows i).range (edges_of pool z)) q))
 
-pub ruleset rows_read = (row_less, row_equal, row_greater, overlap_is)
+pub ruleset rows_read = (overlap_is)
 
 -- ---- what is left of the rows from k on
 
@@ -87,9 +69,9 @@ module _ {A : Type 0} {s : Edge} {f : ℕ → Ranged A} {n k : ℕ} (w : Before 
   unfolding place_of
   before_here b h e t = let m : place_of s (drop k (up_to f n)) ≡ 0 = rw (drop_up_to f n k h, sym e ∙ t) in omega (arith, w.says, m)
 
-  pub before_all : n ≤ k → k ≡ place_of s (up_to f n)
+  pub before_all : n ≤ k → n ≡ place_of s (up_to f n)
   unfolding place_of
-  before_all h = let m : place_of s (drop k (up_to f n)) ≡ 0 = rw (drop_past f n k (omega (arith, w.within))) in omega (arith, w.says, m)
+  before_all h = let m : place_of s (drop k (up_to f n)) ≡ 0 = rw (drop_past f n k (omega (arith, w.within))) in omega (arith, w.says, w.within, m)
 
 -- ---- neighbours: of those before row k none overlap
 pub record Apart {A : Type 0} (f : ℕ → Ranged A) (n k : ℕ) : Type 0 where

@@ -8,8 +8,8 @@ use Rattle.keys.specs.Pick.{pick}
 use Rattle.keys.specs.Key.{is_less, is_equal}
 use Rattle.keys.specs.Range.{Edge}
 use Rattle.keys.specs.Meet.{start_order}
-use Rattle.keys.specs.declared.Order.{Order}
-use Rattle.keys.specs.declared.Order.TheVariants.{Less, Equal, Greater}
+use Rattle.std.specs.declared.cmp.Ordering.{Ordering}
+use Rattle.std.specs.declared.cmp.Ordering.TheVariants.{Less, Equal, Greater}
 use Rattle.keys.proofs.Sorts.{AtMost, turn, start_self, start_turn, start_trans, start_same}
 use Rattle.unite_ranges.specs.Arranged.{Ranged, entered, arranged_from, arranged}
 use Rattle.unite_ranges.specs.Sorted.{Behind, Ascends, starting_at, passing}
@@ -19,27 +19,27 @@ use Rattle.unite_ranges.specs.Sorted.{Behind, Ascends, starting_at, passing}
 not_true_false : {P : Type 0} → true ≡ false → P
 not_true_false e = let z : ◌≡◌ {A = ℕ} 0 1 = cc in absurd (omega arith)
 
-less_most : (o : Order) → is_less o ≡ true → AtMost o
+less_most : (o : Ordering) → is_less o ≡ true → AtMost o
 less_most Less e = tt
 less_most Equal e = tt
 less_most Greater e = not_true_false (sym e)
 
-turned_most : (o : Order) → is_less o ≡ false → AtMost (turn o)
+turned_most : (o : Ordering) → is_less o ≡ false → AtMost (turn o)
 turned_most Less e = not_true_false e
 turned_most Equal e = tt
 turned_most Greater e = tt
 
-most_turned : (o : Order) → AtMost o → is_less (turn o) ≡ false
+most_turned : (o : Ordering) → AtMost o → is_less (turn o) ≡ false
 most_turned Less h = refl
 most_turned Equal h = refl
 most_turned Greater h = absurd h
 
-less_not_turned : (o : Order) → is_less o ≡ true → AtMost (turn o) → ⊥
+less_not_turned : (o : Ordering) → is_less o ≡ true → AtMost (turn o) → ⊥
 less_not_turned Less e h = h
 less_not_turned Equal e h = not_true_false (sym e)
 less_not_turned Greater e h = not_true_false (sym e)
 
-equal_is : (o : Order) → is_equal o ≡ true → o ≡ Equal
+equal_is : (o : Ordering) → is_equal o ≡ true → o ≡ Equal
 equal_is Less e = not_true_false (sym e)
 equal_is Equal e = refl
 equal_is Greater e = not_true_false (sym e)

@@ -1,4 +1,5 @@
 -- Bounding ranges, by the tests that the code makes, and view by view. Assumes nothing.
+use Rattle.std.specs.Prelude.{None, Option, Some}
 use Prim.Native.Nat.{ℕ, ◌+◌, ◌/◌, ◌≤◌, ◌<◌}
 use mathlib.Core.Path.{◌≡◌, refl, sym, ap, ◌∙◌}
 use mathlib.Core.List.{List, [], ◌∷◌, ◌++◌}
@@ -6,10 +7,8 @@ use native.Mathlib.Omega.{arith}
 use native.Mathlib.Numerals.{add-one}
 use lib.ListN.{length}
 use Rattle.keys.specs.Range.{Edge, included}
-use Rattle.keys.specs.Meet.{start_order, end_order, meet_of}
+use Rattle.keys.specs.Meet.{meet_of}
 use Rattle.keys.specs.Pool.{edge_of, edges_of, meet_in}
-use Rattle.keys.specs.declared.Order.{Order}
-use Rattle.keys.specs.declared.Order.TheVariants.{Less, Equal, Greater}
 use Rattle.keys.specs.declared.Bound.{Bound}
 use Rattle.keys.specs.declared.Bound.TheVariants.{Included}
 use Rattle.keys.specs.declared.Range.{Range}
@@ -30,40 +29,17 @@ use Rattle.lawful.proofs.Arms.{last_edge}
 use Rattle.project_views.proofs.Pieces.{span_is}
 use Rattle.unite_ranges.specs.Bounding.{earliest, latest, widened, Bounding, spans, with_range, bounding_from}
 use Rattle.unite_ranges.specs.Rows.{bounded_in}
-use Rattle.unite_ranges.specs.declared.Bounded.{Bounded}
-use Rattle.unite_ranges.specs.declared.Bounded.TheVariants.{None, Spans}
-
-module _ (pool : List ℕ) (s t : Bound) (o : Order) where
-  module _ (e : o ≡ start_order (edge_of pool t) (edge_of pool s)) where
-    pub earliest_less : o ≡ Less → edge_of pool t ≡ earliest (edge_of pool s) (edge_of pool t)
-    earliest_less h = rw (sym e ∙ h)
-
-    pub earliest_equal : o ≡ Equal → edge_of pool s ≡ earliest (edge_of pool s) (edge_of pool t)
-    earliest_equal h = rw (sym e ∙ h)
-
-    pub earliest_greater : o ≡ Greater → edge_of pool s ≡ earliest (edge_of pool s) (edge_of pool t)
-    earliest_greater h = rw (sym e ∙ h)
-
-  module _ (e : o ≡ end_order (edge_of pool s) (edge_of pool t)) where
-    pub latest_less : o ≡ Less → edge_of pool t ≡ latest (edge_of pool s) (edge_of pool t)
-    latest_less h = rw (sym e ∙ h)
-
-    pub latest_equal : o ≡ Equal → edge_of pool s ≡ latest (edge_of pool s) (edge_of pool t)
-    latest_equal h = rw (sym e ∙ h)
-
-    pub latest_greater : o ≡ Greater → edge_of pool s ≡ latest (edge_of pool s) (edge_of pool t)
-    latest_greater h = rw (sym e ∙ h)
 
 pub widened_is : (pool : List ℕ) (a b r : Range) → edge_of pool r.start ≡ earliest (edge_of pool a.start) (edge_of pool b.start)
     → edge_of pool r.end ≡ latest (edge_of pool a.end) (edge_of pool b.end) → edges_of pool r ≡ widened (edges_of pool a) (edges_of pool b)
 widened_is pool a b r p q = λ i. record { start = p i; end = q i }
 
-module _ (pool : List ℕ) (b : Bounded) (r : Range) where
-  pub with_none : b ≡ None → bounded_in pool (Spans r) ≡ with_range (bounded_in pool b) (edges_of pool r)
+module _ (pool : List ℕ) (b : Option Range) (r : Range) where
+  pub with_none : b ≡ None → bounded_in pool (Some r) ≡ with_range (bounded_in pool b) (edges_of pool r)
   with_none e = rw e
 
-  pub with_spans : (q wide : Range) → b ≡ Spans q → edges_of pool wide ≡ widened (edges_of pool q) (edges_of pool r)
-      → bounded_in pool (Spans wide) ≡ with_range (bounded_in pool b) (edges_of pool r)
+  pub with_spans : (q wide : Range) → b ≡ Some q → edges_of pool wide ≡ widened (edges_of pool q) (edges_of pool r)
+      → bounded_in pool (Some wide) ≡ with_range (bounded_in pool b) (edges_of pool r)
   with_spans q wide e h = rw e (ap spans h)
 
 pub effective_is : (pool : List ℕ) (v : ViewRow) (end : Bound) (seen m : Range) → end ≡ last_bound v.last → seen ≡ seen_row v.visible
@@ -78,7 +54,7 @@ pub view_bounds : (views pool : List ℕ) (i : ℕ) (v : ViewRow) (r : Range) (b
 unfolding bounding_from
 view_bounds views pool i v r b q e h t = t ∙ ap (with_range b) (h ∙ ap (λ z. effective (view_in pool z)) e)
 
-pub ruleset wides = (earliest_less, earliest_equal, earliest_greater, latest_less, latest_equal, latest_greater, widened_is, with_none, with_spans, effective_is, view_bounds)
+pub ruleset wides = (widened_is, with_none, with_spans, effective_is, view_bounds)
 
 -- ---- a loop: what the first k of some records hold
 

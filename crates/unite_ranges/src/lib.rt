@@ -7,8 +7,7 @@ ghost use Rattle.keys.specs.Meet.{start_order};
 ghost use Rattle.keys.specs.Pool.{edge_of, edges_of};
 ghost use Rattle.tables.specs.Layout.{joined};
 ghost use Rattle.records.specs.Model.{effective, segment_trees};
-ghost use Rattle.records.specs.Row.{view_at, run_at, segment_at, bound_of, bound_at};
-ghost use Rattle.records.specs.Words.{bound_cell};
+ghost use Rattle.records.specs.Row.{view_at, run_at, segment_at, bound_at};
 ghost use Rattle.records.specs.Decode.{view_in, views_in, run_in, runs_in, tree_in, segment_in, segments_in};
 ghost use Rattle.measure.specs.Within.{run_views, tree_views};
 ghost use Rattle.unite_ranges.specs.Bounding.{earliest as earliestOf, latest as latestOf, widened as widenedOf, none, with_range, bounding_from};
@@ -16,18 +15,11 @@ ghost use Rattle.unite_ranges.specs.Arranged.{overlap, entered, some_overlap};
 ghost use Rattle.unite_ranges.specs.Rows.{bounded_in, ranged_at, ranged_in};
 ghost use Rattle.unite_ranges.specs.Steps.{row_words, place_of};
 
-use keys::{Bound, Order, Range, end_order, is_empty, meet, start_order};
+use keys::{Bound, Range, end_order, is_empty, meet, start_order};
 use lawful::{last_bound, seen_range};
-use records::{Cell, TreeRow, ViewRow, run_at, segment_at, view_at};
+use records::{TreeRow, ViewRow, bound_at, bound_cell, run_at, segment_at, view_at};
 use shift::shift_words;
-use tables::{Window, held, ix, put_words};
-
-// The range in which some views' effective ranges lie; no views have none.
-#[derive(Clone, Copy)]
-pub enum Bounded {
-    None,
-    Spans(Range),
-}
+use tables::{Window, held, put};
 
 // ---- one range and another
 
@@ -35,22 +27,20 @@ pub enum Bounded {
 fn earliest(pool: &[u8], s: Bound, t: Bound) -> Bound
     ensures { edge_of pool.now result ≡ earliestOf (edge_of pool.now s) (edge_of pool.now t) }
 {
-    match start_order(pool, t, pool, s) {
-        Order::Less => t,
-        Order::Equal => s,
-        Order::Greater => s,
+    if start_order(pool, t, pool, s).is_lt() {
+        return t;
     }
+    s
 }
 
 // The later of two ends, of equal ones the first.
 fn latest(pool: &[u8], s: Bound, t: Bound) -> Bound
     ensures { edge_of pool.now result ≡ latestOf (edge_of pool.now s) (edge_of pool.now t) }
 {
-    match end_order(pool, s, pool, t) {
-        Order::Less => t,
-        Order::Equal => s,
-        Order::Greater => s,
+    if end_order(pool, s, pool, t).is_lt() {
+        return t;
     }
+    s
 }
 
 // The smallest range that holds both.
@@ -67,14 +57,14 @@ fn widened(pool: &[u8], a: Range, b: Range) -> Range
 }
 
 // `b` widened by one range more.
-fn with_range(pool: &[u8], b: Bounded, r: Range) -> Bounded
+fn with_range(pool: &[u8], b: Option<Range>, r: Range) -> Option<Range>
     ensures { bounded_in pool.now result ≡ with_range (bounded_in pool.now b) (edges_of pool.now r) }
 {
     match b {
-        Bounded::None => Bounded::Spans(r),
-        Bounded::Spans(q) => {
+        None => Some(r),
+        Some(q) => {
             let wide = widened(pool, q, r);
-            Bounded::Spans(wide)
+            Some(wide)
         }
     }
 }
@@ -94,7 +84,7 @@ fn effective_range(pool: &[u8], v: ViewRow) -> Range
 }
 
 // By that of view `i` of a table.
-fn bounding_view_at(views: &[u64], i: usize, pool: &[u8], b: Bounded) -> Bounded
+fn bounding_view_at(views: &[u64], i: usize, pool: &[u8], b: Option<Range>) -> Option<Range>
     requires { i < length views.now / 16 }
     ensures { bounded_in pool.now result ≡ bounding_from (bounded_in pool.now b) (view_in pool.now (view_at views.now i) ∷ []) }
 {
@@ -104,22 +94,26 @@ fn bounding_view_at(views: &[u64], i: usize, pool: &[u8], b: Bounded) -> Bounded
 }
 
 // By those of a window.
-fn bounding_views(views: &[u64], w: Window, pool: &[u8], b: Bounded) -> Bounded
+fn bounding_views(views: &[u64], w: Window, pool: &[u8], b: Option<Range>) -> Option<Range>
     ensures { bounded_in pool.now result ≡ bounding_from (bounded_in pool.now b) (views_in views.now pool.now w) }
 {
     let n = held(w, views.len() / 16);
     let first = w.first;
     let mut q = b;
-    let mut k = 0;
-    while k < n {
+    for k in 0..n {
         q = bounding_view_at(views, first + k, pool, q);
-        k += 1;
     }
     q
 }
 
 // By those of run `i` of a table.
-fn bounding_run_at(runs: &[u64], i: usize, views: &[u64], pool: &[u8], b: Bounded) -> Bounded
+fn bounding_run_at(
+    runs: &[u64],
+    i: usize,
+    views: &[u64],
+    pool: &[u8],
+    b: Option<Range>,
+) -> Option<Range>
     requires { i < length runs.now / 3 }
     ensures { bounded_in pool.now result ≡ bounding_from (bounded_in pool.now b) (run_views (run_in views.now pool.now (run_at runs.now i))) }
 {
@@ -129,23 +123,33 @@ fn bounding_run_at(runs: &[u64], i: usize, views: &[u64], pool: &[u8], b: Bounde
 }
 
 // By those of the runs of a window.
-fn bounding_runs(runs: &[u64], w: Window, views: &[u64], pool: &[u8], b: Bounded) -> Bounded
+fn bounding_runs(
+    runs: &[u64],
+    w: Window,
+    views: &[u64],
+    pool: &[u8],
+    b: Option<Range>,
+) -> Option<Range>
     ensures { bounded_in pool.now result ≡ bounding_from (bounded_in pool.now b) (joined run_views (runs_in runs.now views.now pool.now w)) }
 {
     let n = held(w, runs.len() / 3);
     let first = w.first;
     let mut q = b;
-    let mut k = 0;
-    while k < n {
+    for k in 0..n {
         q = bounding_run_at(runs, first + k, views, pool, q);
-        k += 1;
     }
     q
 }
 
 // `b` widened by the effective ranges of the views of a tree.
 // inner
-pub fn bounding_tree(t: TreeRow, runs: &[u64], views: &[u64], pool: &[u8], b: Bounded) -> Bounded
+pub fn bounding_tree(
+    t: TreeRow,
+    runs: &[u64],
+    views: &[u64],
+    pool: &[u8],
+    b: Option<Range>,
+) -> Option<Range>
     ensures { bounded_in pool.now result ≡ bounding_from (bounded_in pool.now b) (tree_views (tree_in runs.now views.now pool.now t)) }
 {
     let l0 = t.l0;
@@ -161,8 +165,8 @@ fn bounding_segment_at(
     runs: &[u64],
     views: &[u64],
     pool: &[u8],
-    b: Bounded,
-) -> Bounded
+    b: Option<Range>,
+) -> Option<Range>
     requires { i < length segments.now / 12 }
     ensures { bounded_in pool.now result ≡ bounding_from (bounded_in pool.now b) (tree_views (segment_in runs.now views.now pool.now (segment_at segments.now i)).tree) }
 {
@@ -178,17 +182,15 @@ fn bounding_segments(
     runs: &[u64],
     views: &[u64],
     pool: &[u8],
-    b: Bounded,
-) -> Bounded
+    b: Option<Range>,
+) -> Option<Range>
     ensures { bounded_in pool.now result ≡ bounding_from (bounded_in pool.now b) (joined tree_views (segment_trees (segments_in segments.now runs.now views.now pool.now w))) }
 {
     let n = held(w, segments.len() / 12);
     let first = w.first;
     let mut q = b;
-    let mut k = 0;
-    while k < n {
+    for k in 0..n {
         q = bounding_segment_at(segments, first + k, runs, views, pool, q);
-        k += 1;
     }
     q
 }
@@ -202,37 +204,14 @@ pub fn bounding_range(
     runs: &[u64],
     views: &[u64],
     pool: &[u8],
-) -> Bounded
+) -> Option<Range>
     ensures { bounded_in pool.now result ≡ bounding_from none (joined tree_views (tree_in runs.now views.now pool.now t ∷ segment_trees (segments_in segments.now runs.now views.now pool.now w))) }
 {
-    let b = bounding_tree(t, runs, views, pool, Bounded::None);
+    let b = bounding_tree(t, runs, views, pool, None);
     bounding_segments(segments, w, runs, views, pool, b)
 }
 
 // ---- rows of seven words: what is arranged, and the two bounds of its range
-
-// The words of a bound.
-fn bound_cell(x: Bound) -> Cell
-    ensures { result ≡ bound_cell x }
-{
-    match x {
-        Bound::Unbounded => Cell {
-            code: 0,
-            a: 0,
-            b: 0,
-        },
-        Bound::Included(from, len) => Cell {
-            code: 1,
-            a: from as u64,
-            b: len as u64,
-        },
-        Bound::Excluded(from, len) => Cell {
-            code: 2,
-            a: from as u64,
-            b: len as u64,
-        },
-    }
-}
 
 fn row_words(what: u64, r: Range) -> [u64; 7]
     ensures { result ≡ row_words what r }
@@ -242,23 +221,6 @@ fn row_words(what: u64, r: Range) -> [u64; 7]
     let start = bound_cell(s);
     let end = bound_cell(e);
     [what, start.code, start.a, start.b, end.code, end.a, end.b]
-}
-
-fn bound_of(code: u64, from: usize, len: usize) -> Bound
-    ensures { result ≡ bound_of code from len }
-{
-    match code {
-        0 => Bound::Unbounded,
-        1 => Bound::Included(from, len),
-        _ => Bound::Excluded(from, len),
-    }
-}
-
-fn bound_at(t: &[u64], b: usize) -> Bound
-    requires { b + 3 ≤ length t.now }
-    ensures { result ≡ bound_at t.now b }
-{
-    bound_of(t[b], ix(t[b + 1]), ix(t[b + 2]))
 }
 
 // The range of row `i`.
@@ -279,11 +241,7 @@ fn starts_later(rows: &[u64], i: usize, s: Bound, pool: &[u8]) -> bool
 {
     let r = range_at(rows, i);
     let t = r.start;
-    match start_order(pool, s, pool, t) {
-        Order::Less => true,
-        Order::Equal => false,
-        Order::Greater => false,
-    }
+    start_order(pool, s, pool, t).is_lt()
 }
 
 // How many of the first `n` rows stand before the first that starts later than `s`.
@@ -291,14 +249,12 @@ fn place_of(rows: &[u64], n: usize, s: Bound, pool: &[u8]) -> usize
     requires { n * 7 ≤ length rows.now }
     ensures { result ≡ place_of (edge_of pool.now s) (ranged_in pool.now rows.now n) }
 {
-    let mut k = 0;
-    while k < n {
+    for k in 0..n {
         if starts_later(rows, k, s, pool) {
             return k;
         }
-        k += 1;
     }
-    k
+    n
 }
 
 // Enters `what` with its range among the first `n` rows, which are arranged, seven words a row.
@@ -312,7 +268,7 @@ pub fn enter_range(rows: &mut [u64], n: usize, what: u64, r: Range, pool: &[u8])
     let p = place_of(rows, n, s, pool);
     shift_words(rows, p * 7, n * 7, 7);
     let row = row_words(what, r);
-    put_words(&row, rows, p * 7);
+    put(&row, rows, p * 7);
 }
 
 // Whether row `k` and the next overlap.
@@ -332,12 +288,10 @@ pub fn ranges_overlap(rows: &[u64], n: usize, pool: &[u8]) -> bool
     requires { n * 7 ≤ length rows.now }
     ensures { result ≡ some_overlap (ranged_in pool.now rows.now n) }
 {
-    let mut k = 0;
-    while k + 1 < n {
+    for k in 0..n.saturating_sub(1) {
         if overlap_at(rows, k, pool) {
             return true;
         }
-        k += 1;
     }
     false
 }

@@ -1,4 +1,5 @@
 -- The union with an extractor laid at the front of the tables: no tree, the segments, the name, then the borrows. Assumes nothing.
+use Rattle.std.specs.Prelude.{None, Option, Some}
 use Prim.Native.Nat.{ℕ, suc, ◌+◌, ◌-◌, ◌*◌, ◌≤◌}
 use mathlib.Core.Path.{◌≡◌, refl, sym, ap, ◌∙◌}
 use mathlib.Core.Bool.{true}
@@ -13,15 +14,12 @@ use Rattle.records.specs.Model.{Segment, Borrow, named, Manifest}
 use Rattle.records.specs.Fill.{empty, plus, sum, bytes, key_fill, name_keys, tree_fill, segment_fill, borrow_fill, manifest_fill}
 use Rattle.records.specs.Layout.{run, tree_row, tree_bytes, tree_views_laid, tree_runs_laid, views_laid, runs_laid, runs_views_laid, segment_bytes, segments_laid, segments_views_laid, segments_runs_laid, borrows_laid, borrow_ids, borrow_path, name_row, past_name, manifest_row, layout}
 use Rattle.records.specs.declared.Fill.{Fill}
-use Rattle.records.specs.declared.Name.{Name}
 use Rattle.records.specs.declared.ManifestRow.{ManifestRow}
 use Rattle.records.proofs.Sums.{empty_plus, plus_empty}
 use Rattle.records.proofs.Laid.{Table, at, pool as bytes_table}
 use Rattle.records.proofs.Columns.{segment_fill_lem, segments_fill, segment_bytes_long}
 use Rattle.emit.proofs.Laid.{joined_long}
 use Rattle.measure.specs.Walk.{add_of}
-use Rattle.measure.specs.declared.Measured.{Measured}
-use Rattle.measure.specs.declared.Measured.TheVariants.{Broken, Fills}
 use Rattle.merge.specs.Steps.{new_row}
 use Rattle.project_views.proofs.Summed.{added_broken, added_on}
 use Rattle.unite_trees.specs.Joined.{numbered, numbered_tree, numbered_segments}
@@ -32,6 +30,7 @@ use Rattle.unite_groups.proofs.Lent.{lent_fill_lem}
 use Rattle.unite.specs.United.{segment_runs}
 use Rattle.unite.proofs.Plain.{lent_long, lent_runs}
 use Rattle.unite_segments.specs.Steps.{named_union, rest_fill, named_fill}
+use Rattle.records.specs.declared.Place.{Place}
 
 -- ---- counts
 
@@ -50,14 +49,14 @@ numbered_long left (s ∷ ss) = ap suc (numbered_long (left - length s.tree.runs
 
 -- ---- measured
 
-module _ (most c : Fill) (k : List ℕ) (ms : List Member) (x : List ℕ) (p : x ≡ k) (s : Measured) (e : s ≡ add_of most c (bytes (length x))) where
+module _ (most c : Fill) (k : List ℕ) (ms : List Member) (x : List ℕ) (p : x ≡ k) (s : Option Fill) (e : s ≡ add_of most c (bytes (length x))) where
   name_part : plus (bytes (length x)) (sum member_fill ms) ≡ rest_fill k ms
   name_part = ap (λ (l : List ℕ). plus (bytes (length l)) (sum member_fill ms)) p ∙ ap (λ (f : Fill). plus f (sum member_fill ms)) (sym (plus_empty (key_fill k)))
 
-  pub rest_broken : s ≡ Broken → Broken ≡ add_of most c (rest_fill k ms)
+  pub rest_broken : s ≡ None → None ≡ add_of most c (rest_fill k ms)
   rest_broken h = added_broken most c (bytes (length x)) (sum member_fill ms) (rest_fill k ms) name_part s e h
 
-  pub rest_added : (d : Fill) (r : Measured) → s ≡ Fills d → r ≡ add_of most d (sum member_fill ms) → r ≡ add_of most c (rest_fill k ms)
+  pub rest_added : (d : Fill) (r : Option Fill) → s ≡ Some d → r ≡ add_of most d (sum member_fill ms) → r ≡ add_of most c (rest_fill k ms)
   rest_added d r h j = added_on most c (bytes (length x)) (sum member_fill ms) (rest_fill k ms) name_part s d r e h j
 
 -- ---- laid
@@ -139,7 +138,7 @@ module _ (ss : List Segment) (k : List ℕ) (ms : List Member) (fresh : List Uui
           then d d₁ d₂ 0 a.bytes xs ys (omega arith) (rw z at w) (omega (arith, l, f, g)) v
           ∙ write_front d (xs ++ ys) ∙ ap (λ (i : ℕ). over d (joined segment_bytes (numbered_segments i ss) ++ ys)) numbers
 
-      pub prefixed_row : (r : ManifestRow) (x : Name) (n : ℕ) → x ≡ name_row a.bytes (named k) → n ≡ length ms
+      pub prefixed_row : (r : ManifestRow) (x : Option Place) (n : ℕ) → x ≡ name_row a.bytes (named k) → n ≡ length ms
           → r ≡ record {
             initialized = true;
             tree = new_row;

@@ -22,12 +22,11 @@ ghost use Rattle.unite.specs.Steps.{united_row};
 ghost use Rattle.unite_segments.specs.Steps.{named_segments, named_union, rest_fill, named_fill};
 
 use emit::put_name;
-use ids::{SstMark, ViewMark};
 use keys::part;
-use measure::{Measured, add, fits_in};
-use records::{Fill, Limits, ManifestRow, Name, Place, Refusal, TreeRow};
+use measure::{add, fits_in};
+use records::{Fill, Limits, ManifestRow, Place, Refusal, TreeRow};
 use tables::Window;
-use unite::{United, no_fill, united_row};
+use unite::{no_fill, united_row};
 use unite_groups::{measure_groups, put_groups};
 use unite_named::{measure_named, put_named};
 
@@ -42,24 +41,20 @@ fn measure_rest(
     count: usize,
     sets: &[u64],
     c: Fill,
-) -> Measured
+) -> Option<Fill>
     requires { count * 6 ≤ length groups.now }
     ensures { result ≡ add_of most c (rest_fill (bytes_in pool.now name) (members_in groups.now sets.now pool.now count)) }
 {
-    let k = part(pool, name.at, name.len).len();
     let more = Fill {
         segments: 0,
         views: 0,
         runs: 0,
         borrows: 0,
         ids: 0,
-        bytes: k,
+        bytes: part(pool, name.at, name.len).len(),
     };
-    let s = add(most, c, more);
-    match s {
-        Measured::Broken => Measured::Broken,
-        Measured::Fills(d) => measure_groups(most, groups, count, sets, pool, d),
-    }
+    let d = add(most, c, more)?;
+    measure_groups(most, groups, count, sets, pool, d)
 }
 
 // What the segments, the name and the first `count` groups fill, where it is at most `most`.
@@ -79,7 +74,7 @@ fn measure_prefixed(
     count: usize,
     sets: &[u64],
     shares: &mut [u64],
-) -> Measured
+) -> Option<Fill>
     requires n_in_bounds { n * 7 ≤ length order.now }
     requires n_in_bounds_2 { n * 7 ≤ length shares.old }
     requires np_in_bounds { np * 2 ≤ length prefixes.now }
@@ -87,13 +82,10 @@ fn measure_prefixed(
     ensures { result ≡ add_of most empty (named_fill (named_segments segments.now views.now runs.now pool.now sources.now order.now n prefixes.now np) (bytes_in pool.now name) (members_in groups.now sets.now pool.now count)) }
 {
     let c = no_fill();
-    let s = measure_named(
+    let d = measure_named(
         most, sources, order, n, prefixes, np, segments, views, runs, pool, shares, c,
-    );
-    match s {
-        Measured::Broken => Measured::Broken,
-        Measured::Fills(d) => measure_rest(most, name, pool, groups, count, sets, d),
-    }
+    )?;
+    measure_rest(most, name, pool, groups, count, sets, d)
 }
 
 // ---- laid
@@ -110,7 +102,7 @@ fn put_rest(
     out_ids: &mut [u64],
     out_pool: &mut [u8],
     c: Fill,
-) -> Name
+) -> Option<Place>
     requires count_in_bounds { count * 6 ≤ length groups.now }
     requires count_in_bounds_2 { (c.borrows + (rest_fill (bytes_in pool.now name) (members_in groups.now sets.now pool.now count)).borrows) * 9 ≤ length out_borrows.old }
     requires count_in_bounds_3 { (c.ids + (rest_fill (bytes_in pool.now name) (members_in groups.now sets.now pool.now count)).ids) * 2 ≤ length out_ids.old }
@@ -120,10 +112,7 @@ fn put_rest(
     ensures out_ids_after { out_ids.new ≡ write out_ids.old (c.ids * 2) (joined borrow_ids (lent_from (uuids_of fresh.now) 0 (members_in groups.now sets.now pool.now count))) }
     ensures out_pool_after { out_pool.new ≡ write out_pool.old c.bytes (run (name_keys (named (bytes_in pool.now name))) ++ joined borrow_path (lent_from (uuids_of fresh.now) 0 (members_in groups.now sets.now pool.now count))) }
 {
-    let given = Name::Named(name);
-    let laid = put_name(given, pool, out_pool, c);
-    let row = laid.name;
-    let at = laid.past;
+    let laid = put_name(Some(name), pool, out_pool, c);
     put_groups(
         groups,
         count,
@@ -133,18 +122,18 @@ fn put_rest(
         out_borrows,
         out_ids,
         out_pool,
-        at,
+        laid.past,
     );
-    row
+    laid.name
 }
 
 // The row of such a union with segments: its tree is the new manifest's too.
-fn segmented_row(segments: usize, name: Name, borrows: usize, seq: u64) -> ManifestRow
+fn segmented_row(segments: usize, name: Option<Place>, borrows: usize, seq: u64) -> ManifestRow
     ensures { result ≡ united_row new_row segments name borrows seq }
 {
     let tree = TreeRow {
-        view: ViewMark::None,
-        sst: SstMark::None,
+        view: None,
+        sst: None,
         l0: Window { first: 0, count: 0 },
         compacted: Window { first: 0, count: 0 },
     };
@@ -251,60 +240,55 @@ pub fn given_named(
     out_borrows: &mut [u64],
     out_ids: &mut [u64],
     out_pool: &mut [u8],
-) -> United
+) -> Result<ManifestRow, Refusal>
     requires n_in_bounds { n * 7 ≤ length order.now }
     requires n_in_bounds_2 { n * 7 ≤ length shares.old }
     requires np_in_bounds { np * 2 ≤ length prefixes.now }
     requires count_in_bounds { count * 6 ≤ length groups.now }
     ensures { record { answer = result; out = record { segments = out_segments.new; views = out_views.new; runs = out_runs.new; borrows = out_borrows.new; ids = out_ids.new; pool = out_pool.new } } ≡ union_to lim [] (uuids_of fresh.now) (assembled new_tree (segments_at (tree_tables segments.now views.now runs.now pool.now) sources.now (begins order.now n) (places_in prefixes.now pool.now np)) (named (bytes_in pool.now name)) seq (lent_from (uuids_of fresh.now) 0 (members_in groups.now sets.now pool.now count))) (record { segments = out_segments.old; views = out_views.old; runs = out_runs.old; borrows = out_borrows.old; ids = out_ids.old; pool = out_pool.old }) }
 {
-    let most = lim.fill;
-    match measure_prefixed(
-        most, sources, order, n, prefixes, np, name, segments, views, runs, pool, groups, count,
-        sets, shares,
-    ) {
-        Measured::Broken => United::Refused(Refusal::NoRoom),
-        Measured::Fills(f) => {
-            let room = Fill {
-                segments: out_segments.len() / 12,
-                views: out_views.len() / 16,
-                runs: out_runs.len() / 3,
-                borrows: out_borrows.len() / 9,
-                ids: out_ids.len() / 2,
-                bytes: out_pool.len(),
-            };
-            if !fits_in(f, room) {
-                return United::Refused(Refusal::NoRoom);
-            }
-            if fresh.len() / 2 < count {
-                return United::Refused(Refusal::TooFewFresh);
-            }
-            let left = f.runs;
-            United::Done(put_prefixed(
-                sources,
-                order,
-                n,
-                prefixes,
-                np,
-                name,
-                left,
-                segments,
-                views,
-                runs,
-                pool,
-                groups,
-                count,
-                sets,
-                fresh,
-                seq,
-                shares,
-                out_segments,
-                out_views,
-                out_runs,
-                out_borrows,
-                out_ids,
-                out_pool,
-            ))
-        }
+    let f = measure_prefixed(
+        lim.fill, sources, order, n, prefixes, np, name, segments, views, runs, pool, groups,
+        count, sets, shares,
+    )
+    .ok_or(Refusal::NoRoom)?;
+    let room = Fill {
+        segments: out_segments.len() / 12,
+        views: out_views.len() / 16,
+        runs: out_runs.len() / 3,
+        borrows: out_borrows.len() / 9,
+        ids: out_ids.len() / 2,
+        bytes: out_pool.len(),
+    };
+    if !fits_in(f, room) {
+        return Err(Refusal::NoRoom);
     }
+    if fresh.len() / 2 < count {
+        return Err(Refusal::TooFewFresh);
+    }
+    Ok(put_prefixed(
+        sources,
+        order,
+        n,
+        prefixes,
+        np,
+        name,
+        f.runs,
+        segments,
+        views,
+        runs,
+        pool,
+        groups,
+        count,
+        sets,
+        fresh,
+        seq,
+        shares,
+        out_segments,
+        out_views,
+        out_runs,
+        out_borrows,
+        out_ids,
+        out_pool,
+    ))
 }

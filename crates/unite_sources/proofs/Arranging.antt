@@ -1,4 +1,5 @@
 -- Things arranged one by one, those without views set aside. Assumes nothing.
+use Rattle.std.specs.Prelude.{None, Option, Some}
 use Prim.Native.Nat.{ℕ, ◌+◌, ◌*◌, ◌≤◌, ◌<◌}
 use mathlib.Core.Path.{◌≡◌, refl, sym, ap, ◌∙◌}
 use mathlib.Core.List.{List, [], ◌∷◌, ◌++◌, append_assoc, append-nil}
@@ -11,8 +12,6 @@ use Rattle.records.specs.Model.{View}
 use Rattle.unite_ranges.specs.Bounding.{Bounding, bounding_of}
 use Rattle.unite_ranges.specs.Arranged.{Ranged, entered, arranged_from, arranged}
 use Rattle.unite_ranges.specs.Rows.{bounded_in, ranged_in}
-use Rattle.unite_ranges.specs.declared.Bounded.{Bounded}
-use Rattle.unite_ranges.specs.declared.Bounded.TheVariants.{None, Spans}
 use Rattle.unite_sources.specs.Used.{ranged_as, ranged_by}
 
 pub arranged_append : {A : Type 0} (done xs ys : List (Ranged A)) → arranged_from done (xs ++ ys) ≡ arranged_from (arranged_from done xs) ys
@@ -31,12 +30,12 @@ module _ {A : Type 0} (views : A → List View) where
   ranged_one x = append-nil (ranged_as x (bounding_of (views x)))
 
 -- ---- one that has a range, or none
-module _ (pool rows : List ℕ) (k what : ℕ) (q : Bounded) where
+module _ (pool rows : List ℕ) (k what : ℕ) (q : Option Range) where
   pub enter_none : q ≡ None → ranged_in pool rows k ≡ arranged_from (ranged_in pool rows k) (ranged_as what (bounded_in pool q))
   unfolding arranged_from
   enter_none e = rw e
 
-  pub enter_spans : (r : Range) (xs : List (Ranged ℕ)) → q ≡ Spans r → xs ≡ entered (record { what = what; range = edges_of pool r }) (ranged_in pool rows k)
+  pub enter_spans : (r : Range) (xs : List (Ranged ℕ)) → q ≡ Some r → xs ≡ entered (record { what = what; range = edges_of pool r }) (ranged_in pool rows k)
       → xs ≡ arranged_from (ranged_in pool rows k) (ranged_as what (bounded_in pool q))
   unfolding arranged_from
   enter_spans r xs e h = rw e h

@@ -12,7 +12,7 @@ use borrow.Author.Tests.{ltb-true, lt-ltb, le-ltb}
 use Rattle.keys.specs.Pick.{pick}
 use Rattle.keys.specs.Key.{less_of}
 use Rattle.keys.specs.Prefix.{begins_of}
-use Rattle.keys.specs.declared.Order.{Order}
+use Rattle.std.specs.declared.cmp.Ordering.{Ordering}
 use Rattle.keys.proofs.ByteOrder.{Stand, stand, stand_order}
 use Rattle.tables.specs.Layout.{write, up_to}
 use Rattle.tables.proofs.Holds.{up_to_front}
@@ -49,7 +49,7 @@ pub among_held : (p : List ℕ) (qs : List (List ℕ)) → spot p qs < length qs
 among_held p [] h t = absurd (omega arith)
 among_held p (q ∷ qs) h t = go (stand p q) h t (among_held p qs)
   where
-    go : {o : Order} → Stand p q o → spot p (q ∷ qs) < length (q ∷ qs) → same_of p (get_or (q ∷ qs) (spot p (q ∷ qs)) []) ≡ true
+    go : {o : Ordering} → Stand p q o → spot p (q ∷ qs) < length (q ∷ qs) → same_of p (get_or (q ∷ qs) (spot p (q ∷ qs)) []) ≡ true
         → (spot p qs < length qs → same_of p (get_or qs (spot p qs) []) ≡ true → among p qs ≡ qs) → among p (q ∷ qs) ≡ q ∷ qs
     go (Stand.less l) h t ih = absurd (true≢false (sym (rw (stand_order (Stand.more l), stand_order (Stand.less l)) at t)))
     go (Stand.same e) h t ih = rw (stand_order (Stand.same e))
@@ -61,7 +61,7 @@ pub among_new : (p : List ℕ) (qs : List (List ℕ)) → (spot p qs < length qs
 among_new p [] t = refl
 among_new p (q ∷ qs) t = go (stand p q) t (among_new p qs)
   where
-    go : {o : Order} → Stand p q o → (spot p (q ∷ qs) < length (q ∷ qs) → same_of p (get_or (q ∷ qs) (spot p (q ∷ qs)) []) ≡ false)
+    go : {o : Ordering} → Stand p q o → (spot p (q ∷ qs) < length (q ∷ qs) → same_of p (get_or (q ∷ qs) (spot p (q ∷ qs)) []) ≡ false)
         → ((spot p qs < length qs → same_of p (get_or qs (spot p qs) []) ≡ false) → among p qs ≡ take (spot p qs) qs ++ (p ∷ drop (spot p qs) qs))
         → among p (q ∷ qs) ≡ take (spot p (q ∷ qs)) (q ∷ qs) ++ (p ∷ drop (spot p (q ∷ qs)) (q ∷ qs))
     go (Stand.less l) t ih = rw (stand_order (Stand.less l), stand_order (Stand.more l))

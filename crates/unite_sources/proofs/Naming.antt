@@ -1,4 +1,5 @@
 -- Names that are the same, and whether all are. Assumes nothing.
+use Rattle.std.specs.Prelude.{None, Option, Some}
 use Prim.Native.Nat.{ℕ, zero, suc, ◌+◌, ◌≤◌, ◌<◌}
 use mathlib.Core.Path.{◌≡◌, refl, sym, ap, ◌∙◌}
 use mathlib.Core.Bool.{Bool, true, false, not}
@@ -8,16 +9,14 @@ use native.Mathlib.Numerals.{add-one}
 use lib.ListN.{length, drop}
 use lib.Seq.{drop-length}
 use Rattle.keys.specs.Key.{order_of}
-use Rattle.keys.specs.declared.Order.{Order}
-use Rattle.keys.specs.declared.Order.TheVariants.{Less, Equal, Greater}
+use Rattle.std.specs.declared.cmp.Ordering.{Ordering}
+use Rattle.std.specs.declared.cmp.Ordering.TheVariants.{Less, Equal, Greater}
 use Rattle.tables.specs.Layout.{up_to}
 use Rattle.tables.proofs.Holds.{up_to_front}
 use Rattle.tables.proofs.Joined.{up_to_length}
 use Rattle.records.specs.Model.{Extractor, none, named}
 use Rattle.records.specs.Row.{at, place_at, optional}
 use Rattle.records.specs.Decode.{bytes_in, name_in}
-use Rattle.records.specs.declared.Name.{Name}
-use Rattle.records.specs.declared.Name.TheVariants.{Absent, Named}
 use Rattle.records.specs.declared.Place.{Place}
 use Rattle.segments.specs.Lookup.{same_of}
 use Rattle.merge.specs.Merge.{some_of}
@@ -26,36 +25,24 @@ use Rattle.unite_ranges.proofs.Placed.{drop_up_to}
 use Rattle.unite_sources.specs.Source.{same_name, names_differ}
 use Rattle.unite_sources.specs.Rows.{name_at_word}
 
-module _ (a b : List ℕ) (o : Order) (e : o ≡ order_of a b) where
-  pub same_less : o ≡ Less → false ≡ same_of a b
-  same_less h = rw (sym e ∙ h)
-
-  pub same_equal : o ≡ Equal → true ≡ same_of a b
-  same_equal h = rw (sym e ∙ h)
-
-  pub same_greater : o ≡ Greater → false ≡ same_of a b
-  same_greater h = rw (sym e ∙ h)
-
-pub ruleset sames = (same_less, same_equal, same_greater)
-
-module _ (pool : List ℕ) (a b : Name) where
-  pub both_absent : a ≡ Absent → b ≡ Absent → true ≡ same_name (name_in pool a) (name_in pool b)
+module _ (pool : List ℕ) (a b : Option Place) where
+  pub both_absent : a ≡ None → b ≡ None → true ≡ same_name (name_in pool a) (name_in pool b)
   both_absent e f = rw (e, f)
 
-  pub first_absent : (q : Place) → a ≡ Absent → b ≡ Named q → false ≡ same_name (name_in pool a) (name_in pool b)
+  pub first_absent : (q : Place) → a ≡ None → b ≡ Some q → false ≡ same_name (name_in pool a) (name_in pool b)
   first_absent q e f = rw (e, f)
 
-  pub second_absent : (p : Place) → a ≡ Named p → b ≡ Absent → false ≡ same_name (name_in pool a) (name_in pool b)
+  pub second_absent : (p : Place) → a ≡ Some p → b ≡ None → false ≡ same_name (name_in pool a) (name_in pool b)
   second_absent p e f = rw (e, f)
 
-  pub both_named : (p q : Place) (x y : List ℕ) (r : Bool) → a ≡ Named p → b ≡ Named q → x ≡ bytes_in pool p → y ≡ bytes_in pool q → r ≡ same_of x y → r ≡ same_name (name_in pool a) (name_in pool b)
+  pub both_named : (p q : Place) (x y : List ℕ) (r : Bool) → a ≡ Some p → b ≡ Some q → x ≡ bytes_in pool p → y ≡ bytes_in pool q → r ≡ same_of x y → r ≡ same_name (name_in pool a) (name_in pool b)
   both_named p q x y r e f g h k = rw (e, f) (k ∙ rw (g, h))
 
 pub ruleset names_same = (both_absent, first_absent, second_absent, both_named)
 
-pub named_is : (pool t : List ℕ) (b : ℕ) (first name : Name) (r : Bool) → name ≡ optional Absent Named (at t (b + 12)) (place_at t (b + 13)) → r ≡ same_name (name_in pool first) (name_in pool name)
+pub named_is : (pool t : List ℕ) (b : ℕ) (first name : Option Place) (r : Bool) → name ≡ optional None Some (at t (b + 12)) (place_at t (b + 13)) → r ≡ same_name (name_in pool first) (name_in pool name)
     → r ≡ same_name (name_in pool first) (name_at_word pool t b)
-named_is pool t b first name r e h = h ∙ ap (λ (z : Name). same_name (name_in pool first) (name_in pool z)) e
+named_is pool t b first name r e h = h ∙ ap (λ (z : Option Place). same_name (name_in pool first) (name_in pool z)) e
 
 name_itself : (k : Extractor) → same_name k k ≡ true
 name_itself none = refl

@@ -8,7 +8,7 @@ use lib.ListN.{length}
 use Rattle.keys.specs.Pick.{pick}
 use Rattle.keys.specs.Key.{is_less, less_of}
 use Rattle.keys.specs.Meet.{start_order}
-use Rattle.keys.specs.declared.Order.{Order}
+use Rattle.std.specs.declared.cmp.Ordering.{Ordering}
 use Rattle.keys.proofs.ByteOrder.{Stand, stand, stand_order}
 use Rattle.tables.specs.Layout.{up_to}
 use Rattle.tables.specs.Window.{held_of}
@@ -235,7 +235,7 @@ among_ascends : (p : List ℕ) {qs : List (List ℕ)} → Ascending qs → Ascen
 among_ascends p Ascending.none = Ascending.more Above.none Ascending.none
 among_ascends p (Ascending.more {p = q} {ps = qs} a s) = go (stand p q) (among_ascends p s)
   where
-    go : {o : Order} → Stand p q o → Ascending (among p qs) → Ascending (among p (q ∷ qs))
+    go : {o : Ordering} → Stand p q o → Ascending (among p qs) → Ascending (among p (q ∷ qs))
     go (Stand.less h) r = rw (stand_order (Stand.less h)) (Ascending.more (Above.more h (above_on h a)) (Ascending.more a s))
     go (Stand.same e) r = rw (stand_order (Stand.same e)) (Ascending.more a s)
     go (Stand.more h) r = rw (stand_order (Stand.more h)) (Ascending.more (above_among qs h a) r)

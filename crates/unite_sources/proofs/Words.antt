@@ -1,4 +1,5 @@
 -- Words of a source's row, by the tests that the code makes. Assumes nothing.
+use Rattle.std.specs.Prelude.{None, Some}
 use Prim.Native.Nat.{ℕ, ◌+◌, ◌-◌, ◌≤◌, ◌<◌}
 use mathlib.Core.Path.{◌≡◌, sym, ◌∙◌}
 use mathlib.Core.List.{List, ◌∷◌}
@@ -6,12 +7,9 @@ use native.Mathlib.Omega.{arith}
 use native.Mathlib.Nat.{add_assoc}
 use lib.ListN.{length, get_or-eq_default}
 use Rattle.tables.specs.declared.Window.{Window}
-use Rattle.ids.specs.declared.ViewMark.TheVariants as view_marks
-use Rattle.ids.specs.declared.SstMark.TheVariants as sst_marks
 use Rattle.records.specs.Row.{at, place_at, window_at, tree_at, optional}
 use Rattle.records.specs.Decode.{tree_in, segments_in}
 use Rattle.records.specs.Model.{segment_trees}
-use Rattle.records.specs.declared.Name.TheVariants.{Absent, Named}
 use Rattle.records.specs.declared.TreeRow.{TreeRow}
 use Rattle.records.proofs.Codes.{optional_rest}
 use Rattle.measure.specs.Within.{tree_views}
@@ -33,16 +31,16 @@ pub window_read : (t : List ℕ) (b k p q i j : ℕ) → p ≡ at t (b + k) → 
 window_read t b k p q i j e f g h = rw (add_assoc b k 1) (λ z. record { first = (f ∙ e) z; count = (h ∙ g) z })
 
 module _ (t : List ℕ) (b x : ℕ) (e : x ≡ at t (b + 12)) where
-  pub name_absent : x ≡ 0 → Absent ≡ optional Absent Named (at t (b + 12)) (place_at t (b + 13))
+  pub name_absent : x ≡ 0 → None ≡ optional None Some (at t (b + 12)) (place_at t (b + 13))
   name_absent z = rw (sym e ∙ z)
 
-  pub name_named : (p q i j : ℕ) → (x ≡ 0 → ⊥) → p ≡ at t (b + 13) → i ≡ p → q ≡ at t (b + 14) → j ≡ q → Named (record { at = i; len = j }) ≡ optional Absent Named (at t (b + 12)) (place_at t (b + 13))
+  pub name_named : (p q i j : ℕ) → (x ≡ 0 → ⊥) → p ≡ at t (b + 13) → i ≡ p → q ≡ at t (b + 14) → j ≡ q → Some (record { at = i; len = j }) ≡ optional None Some (at t (b + 12)) (place_at t (b + 13))
   name_named p q i j z f g h k =
-      rw (← e) (optional_rest Absent Named x (record { at = i; len = j }) (place_at t (b + 13)) z (rw (add_assoc b 13 1) (λ y. record { at = (g ∙ f) y; len = (k ∙ h) y })))
+      rw (← e) (optional_rest None Some x (record { at = i; len = j }) (place_at t (b + 13)) z (rw (add_assoc b 13 1) (λ y. record { at = (g ∙ f) y; len = (k ∙ h) y })))
 
 -- the views of a source: the watermarks of its tree are not asked for
 pub source_views_lem : (segments runs views pool t : List ℕ) (b : ℕ) (r : TreeRow) (w : Window) (q : Bounding)
-    → r ≡ record { view = view_marks.None; sst = sst_marks.None; l0 = window_at t (b + 6); compacted = window_at t (b + 8) } → w ≡ window_at t (b + 10)
+    → r ≡ record { view = None; sst = None; l0 = window_at t (b + 6); compacted = window_at t (b + 8) } → w ≡ window_at t (b + 10)
     → q ≡ bounding_of (joined tree_views (tree_in runs views pool r ∷ segment_trees (segments_in segments runs views pool w))) → q ≡ bounding_of (views_at_word segments runs views pool t b)
 unfolding views_at_word tree_in tree_at
 source_views_lem segments runs views pool t b r w q e f h = h ∙ rw (e, f)

@@ -1,6 +1,6 @@
 -- Sources as they are lent: a table of 22 words a row over one set of six tables: 0 tree, 10 segments, 12 name, 15 last_l0_seq, 16 borrows,
 -- 18 path, 20 checkpoint. Of a manifest the other numbers are not asked for, and stand as those of the new one.
-use Rattle.std.specs.Prelude.{ℕ, ◌+◌, ◌*◌, ◌/◌, negsuc, Bool, true, ◌&&◌, leb, List, [], ◌∷◌, length}
+use Rattle.std.specs.Prelude.{ℕ, ◌+◌, ◌*◌, ◌/◌, negsuc, Bool, true, ◌&&◌, leb, List, [], ◌∷◌, length, None, Some}
 use Rattle.tables.specs.Window.{held_of}
 use Rattle.tables.specs.Layout.{up_to, joined}
 use Rattle.records.specs.Row.{at, place_at, window_at, tree_at, optional}
@@ -9,7 +9,6 @@ use Rattle.records.specs.Model.{View, Tree, Extractor, segment_trees}
 use Rattle.measure.specs.Within.{tree_views}
 use Rattle.segments.specs.Prefixes.{prefixes_in}
 use Rattle.records.specs.declared.ManifestRow.{ManifestRow}
-use Rattle.records.specs.declared.Name.TheVariants.{Absent, Named}
 use Rattle.unite_ranges.specs.Arranged.{Ranged}
 use Rattle.merge.specs.Merge.{tree_of}
 use Rattle.unite_sources.specs.Source.{Source}
@@ -22,7 +21,7 @@ manifest_at_word t b =
       initialized = true;
       tree = tree_at t b;
       segments = window_at t (b + 10);
-      segment_extractor_name = optional Absent Named (at t (b + 12)) (place_at t (b + 13));
+      segment_extractor_name = optional None Some (at t (b + 12)) (place_at t (b + 13));
       next_wal_sst_id = 1;
       replay_after_wal_id = 0;
       last_l0_clock_tick = negsuc 9223372036854775807;
@@ -46,7 +45,7 @@ unfoldable pub prefixes_at_word : List ℕ → List ℕ → List ℕ → ℕ →
 prefixes_at_word segments pool t b = prefixes_in segments pool (window_at t (b + 10))
 
 abbrev pub name_at_word : List ℕ → List ℕ → ℕ → Extractor
-name_at_word pool t b = name_in pool (optional Absent Named (at t (b + 12)) (place_at t (b + 13)))
+name_at_word pool t b = name_in pool (optional None Some (at t (b + 12)) (place_at t (b + 13)))
 
 -- where the first n rows begin
 unfoldable pub words_of : ℕ → List ℕ

@@ -7,12 +7,8 @@ mod tree_shares;
 
 ghost use Rattle.std.specs.Prelude.{◌≡◌, true, ◌+◌, ◌-◌, ◌*◌, ◌≤◌, ◌<◌, length};
 ghost use Rattle.tables.specs.Layout.{up_to};
-ghost use Rattle.ids.specs.declared.ViewMark.TheVariants as view_marks;
-ghost use Rattle.ids.specs.declared.SstMark.TheVariants as sst_marks;
 ghost use Rattle.records.specs.Row.{at, place_at, window_at, optional};
 ghost use Rattle.records.specs.Decode.{name_in};
-ghost use Rattle.records.specs.declared.Name.TheVariants.{Absent, Named};
-ghost use Rattle.segments.specs.Lookup.{same_of};
 ghost use Rattle.unite_ranges.specs.Bounding.{bounding_of};
 ghost use Rattle.unite_ranges.specs.Arranged.{arranged, arranged_from};
 ghost use Rattle.unite_ranges.specs.Rows.{bounded_in, ranged_in};
@@ -20,13 +16,12 @@ ghost use Rattle.unite_sources.specs.Source.{same_name, names_differ};
 ghost use Rattle.unite_sources.specs.Used.{ranged_as, ranged_by};
 ghost use Rattle.unite_sources.specs.Rows.{views_at_word, name_at_word, words_of};
 
-use ids::{SstMark, ViewMark};
-use keys::{Order, compare, part};
+use keys::{Range, compare, part};
 pub use prefix_lists::{all_prefixes, prefixes_nest};
-use records::{Name, Place, TreeRow};
+use records::{Place, TreeRow};
 use tables::{Window, ix};
 pub use tree_shares::shares_at;
-use unite_ranges::{Bounded, bounding_range, enter_range};
+use unite_ranges::{bounding_range, enter_range};
 
 // ---- what a source's row says. A word that the table does not have reads as 0: nothing is asked of the word at which a row begins.
 
@@ -57,29 +52,29 @@ pub fn window_in(t: &[u64], b: usize, k: usize) -> Window
 
 // The tree's two windows. Its watermarks are not asked for.
 fn tree_at(t: &[u64], b: usize) -> TreeRow
-    ensures { result ≡ record { view = view_marks.None; sst = sst_marks.None; l0 = window_at t.now (b + 6); compacted = window_at t.now (b + 8) } }
+    ensures { result ≡ record { view = None; sst = None; l0 = window_at t.now (b + 6); compacted = window_at t.now (b + 8) } }
 {
     let l0 = window_in(t, b, 6);
     let compacted = window_in(t, b, 8);
     TreeRow {
-        view: ViewMark::None,
-        sst: SstMark::None,
+        view: None,
+        sst: None,
         l0,
         compacted,
     }
 }
 
 // The extractor's name.
-fn name_at(t: &[u64], b: usize) -> Name
-    ensures { result ≡ optional Absent Named (at t.now (b + 12)) (place_at t.now (b + 13)) }
+fn name_at(t: &[u64], b: usize) -> Option<Place>
+    ensures { result ≡ optional None Some (at t.now (b + 12)) (place_at t.now (b + 13)) }
 {
     let p = Place {
         at: ix(word_at(t, b, 13)),
         len: ix(word_at(t, b, 14)),
     };
     match word_at(t, b, 12) {
-        0 => Name::Absent,
-        _ => Name::Named(p),
+        0 => None,
+        _ => Some(p),
     }
 }
 
@@ -93,7 +88,7 @@ fn source_bounds(
     runs: &[u64],
     views: &[u64],
     pool: &[u8],
-) -> Bounded
+) -> Option<Range>
     ensures { bounded_in pool.now result ≡ bounding_of (views_at_word segments.now runs.now views.now pool.now sources.now b) }
 {
     let t = tree_at(sources, b);
@@ -102,15 +97,15 @@ fn source_bounds(
 }
 
 // Enters `what` with its range among the first `k` rows, if it has one. It answers how many there are then.
-fn enter_bounded(rows: &mut [u64], k: usize, what: u64, q: Bounded, pool: &[u8]) -> usize
+fn enter_bounded(rows: &mut [u64], k: usize, what: u64, q: Option<Range>, pool: &[u8]) -> usize
     requires { (k + 1) * 7 ≤ length rows.old }
     ensures result_after { ranged_in pool.now rows.new result ≡ arranged_from (ranged_in pool.now rows.old k) (ranged_as what (bounded_in pool.now q)) }
     ensures upper_bound { result ≤ k + 1 }
     ensures rows_len_unchanged { length rows.new ≡ length rows.old }
 {
     match q {
-        Bounded::None => k,
-        Bounded::Spans(r) => {
+        None => k,
+        Some(r) => {
             enter_range(rows, k, what, r, pool);
             k + 1
         }
@@ -156,10 +151,8 @@ pub fn arrange_sources(
     ensures order_len_unchanged { length order.new ≡ length order.old }
 {
     let mut k = 0;
-    let mut i = 0;
-    while i < n {
+    for i in 0..n {
         k = enter_source(sources, i * 22, segments, runs, views, pool, order, k);
-        i += 1;
     }
     k
 }
@@ -167,34 +160,23 @@ pub fn arrange_sources(
 // ---- the names
 
 // Whether two names are the same. An absent one is no empty one.
-fn same_name(pool: &[u8], a: Name, b: Name) -> bool
+fn same_name(pool: &[u8], a: Option<Place>, b: Option<Place>) -> bool
     ensures { result ≡ same_name (name_in pool.now a) (name_in pool.now b) }
 {
     match a {
-        Name::Absent => match b {
-            Name::Absent => true,
-            Name::Named(_) => false,
+        None => match b {
+            None => true,
+            Some(_) => false,
         },
-        Name::Named(p) => match b {
-            Name::Absent => false,
-            Name::Named(q) => same_bytes(part(pool, p.at, p.len), part(pool, q.at, q.len)),
+        Some(p) => match b {
+            None => false,
+            Some(q) => compare(part(pool, p.at, p.len), part(pool, q.at, q.len)).is_eq(),
         },
-    }
-}
-
-// Whether two byte strings are the same.
-fn same_bytes(a: &[u8], b: &[u8]) -> bool
-    ensures { result ≡ same_of a.now b.now }
-{
-    match compare(a, b) {
-        Order::Less => false,
-        Order::Equal => true,
-        Order::Greater => false,
     }
 }
 
 // Whether the name of the source that begins at word `b` is `first`.
-fn is_named(sources: &[u64], b: usize, pool: &[u8], first: Name) -> bool
+fn is_named(sources: &[u64], b: usize, pool: &[u8], first: Option<Place>) -> bool
     ensures { result ≡ same_name (name_in pool.now first) (name_at_word pool.now sources.now b) }
 {
     let name = name_at(sources, b);
@@ -208,12 +190,10 @@ pub fn names_differ(sources: &[u64], n: usize, pool: &[u8]) -> bool
     ensures { result ≡ names_differ (up_to (λ i. name_at_word pool.now sources.now (i * 22)) n) }
 {
     let first = name_at(sources, 0);
-    let mut i = 0;
-    while i < n {
+    for i in 0..n {
         if !is_named(sources, i * 22, pool, first) {
             return true;
         }
-        i += 1;
     }
     false
 }

@@ -13,30 +13,18 @@ ghost use Rattle.merge.specs.Merge.{nests, among};
 ghost use Rattle.unite_sources.specs.Prefixed.{among_all};
 ghost use Rattle.unite_sources.specs.Rows.{begins as beginsAt, counts_within, places_in, prefixes_of_all};
 
-use crate::{same_bytes, window_in};
-use keys::{begins, is_less, part};
-use records::{Place, segment_at};
+use crate::window_in;
+use keys::{begins, compare, is_less, part};
+use records::{Place, place_at, segment_at};
 use shift::shift_words;
-use tables::{Window, held, ix, put_words};
-
-// The place in row `i`.
-fn place_at(list: &[u64], i: usize) -> Place
-    requires { (i + 1) * 2 ≤ length list.now }
-    ensures { result ≡ place_at list.now (i * 2) }
-{
-    let b = i * 2;
-    Place {
-        at: ix(list[b]),
-        len: ix(list[b + 1]),
-    }
-}
+use tables::{Window, held, ix, put};
 
 // Whether the bytes of row `i` are below `p`.
 fn is_under(list: &[u64], i: usize, p: &[u8], pool: &[u8]) -> bool
     requires { (i + 1) * 2 ≤ length list.now }
     ensures { result ≡ less_of (bytes_in pool.now (place_at list.now (i * 2))) p.now }
 {
-    let q = place_at(list, i);
+    let q = place_at(list, i * 2);
     is_less(part(pool, q.at, q.len), p)
 }
 
@@ -45,14 +33,12 @@ fn place_of(list: &[u64], n: usize, p: &[u8], pool: &[u8]) -> usize
     requires { n * 2 ≤ length list.now }
     ensures { result ≡ leading (λ q. less_of q p.now) (places_in list.now pool.now n) }
 {
-    let mut k = 0;
-    while k < n {
+    for k in 0..n {
         if !is_under(list, k, p, pool) {
             return k;
         }
-        k += 1;
     }
-    k
+    n
 }
 
 // Whether the bytes of row `i` are `p`.
@@ -60,8 +46,8 @@ fn is_same(list: &[u64], i: usize, p: &[u8], pool: &[u8]) -> bool
     requires { (i + 1) * 2 ≤ length list.now }
     ensures { result ≡ same_of p.now (bytes_in pool.now (place_at list.now (i * 2))) }
 {
-    let q = place_at(list, i);
-    same_bytes(p, part(pool, q.at, q.len))
+    let q = place_at(list, i * 2);
+    compare(p, part(pool, q.at, q.len)).is_eq()
 }
 
 // Whether row `i` is one of the first `n` and its bytes are `p`.
@@ -83,7 +69,7 @@ fn put_place(list: &mut [u64], n: usize, i: usize, p: Place)
 {
     shift_words(list, i * 2, n * 2, 2);
     let row = [p.at as u64, p.len as u64];
-    put_words(&row, list, i * 2);
+    put(&row, list, i * 2);
 }
 
 // Enters a prefix among the first `n`, which ascend, if it is not there. It answers how many there are then.
@@ -125,10 +111,8 @@ fn enter_prefixes(segments: &[u64], w: Window, pool: &[u8], list: &mut [u64], n:
     let m = held(w, segments.len() / 12);
     let first = w.first;
     let mut count = n;
-    let mut k = 0;
-    while k < m {
+    for k in 0..m {
         count = enter_segment(segments, first + k, pool, list, count);
-        k += 1;
     }
     count
 }
@@ -160,11 +144,9 @@ pub fn all_prefixes(
     ensures result_in_bounds { result * 2 ≤ length prefixes.new }
 {
     let mut count = 0;
-    let mut i = 0;
-    while i < n {
+    for i in 0..n {
         let w = segments_of(sources, order, i);
         count = enter_prefixes(segments, w, pool, prefixes, count);
-        i += 1;
     }
     count
 }
@@ -174,8 +156,8 @@ fn begins_next(prefixes: &[u64], k: usize, pool: &[u8]) -> bool
     requires { (k + 2) * 2 ≤ length prefixes.now }
     ensures { result ≡ begins_of (bytes_in pool.now (place_at prefixes.now (k * 2))) (bytes_in pool.now (place_at prefixes.now ((k + 1) * 2))) }
 {
-    let p = place_at(prefixes, k);
-    let q = place_at(prefixes, k + 1);
+    let p = place_at(prefixes, k * 2);
+    let q = place_at(prefixes, (k + 1) * 2);
     begins(part(pool, p.at, p.len), part(pool, q.at, q.len))
 }
 
@@ -185,12 +167,10 @@ pub fn prefixes_nest(prefixes: &[u64], n: usize, pool: &[u8]) -> bool
     requires { n * 2 ≤ length prefixes.now }
     ensures { result ≡ nests (places_in prefixes.now pool.now n) }
 {
-    let mut k = 0;
-    while k + 1 < n {
+    for k in 0..n.saturating_sub(1) {
         if begins_next(prefixes, k, pool) {
             return true;
         }
-        k += 1;
     }
     false
 }

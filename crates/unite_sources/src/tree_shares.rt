@@ -3,8 +3,6 @@ ghost use Rattle.std.specs.Prelude.{◌≡◌, [], ◌+◌, ◌*◌, ◌/◌, �
 ghost use Rattle.records.specs.Row.{at, tree_at};
 ghost use Rattle.records.specs.Decode.{bytes_in, tree_in, segments_in};
 ghost use Rattle.measure.specs.Within.{tree_views};
-ghost use Rattle.segments.specs.Prefixes.{prefixes_in};
-ghost use Rattle.segments.specs.Lookup.{index_of};
 ghost use Rattle.merge.specs.Merge.{tree_of};
 ghost use Rattle.unite_ranges.specs.Bounding.{bounding_of};
 ghost use Rattle.unite_ranges.specs.Arranged.{arranged, arranged_from};
@@ -16,24 +14,9 @@ use crate::enter_bounded;
 use crate::prefix_lists::segments_of;
 use keys::part;
 use records::{Place, segment_at};
-use segments::is_other;
+use segments::index_of;
 use tables::{Window, held};
-use unite_ranges::{Bounded, bounding_tree};
-
-// The place of the first segment of a window that has this prefix, or the number of all: at most 64 comparisons.
-fn index_of(segments: &[u64], pool: &[u8], w: Window, prefix: &[u8]) -> usize
-    ensures { result ≡ index_of (prefixes_in segments.now pool.now w) prefix.now }
-{
-    let n = held(w, segments.len() / 12);
-    let mut k = 0;
-    while k < n {
-        if !is_other(segments, pool, w.first + k, prefix) {
-            return k;
-        }
-        k += 1;
-    }
-    k
-}
+use unite_ranges::bounding_tree;
 
 // Enters the tree of segment `i` of a table, if it has views: the word at which it begins, and its range.
 fn enter_tree(
@@ -53,7 +36,7 @@ fn enter_tree(
 {
     let s = segment_at(segments, i);
     let t = s.tree;
-    let q = bounding_tree(t, runs, views, pool, Bounded::None);
+    let q = bounding_tree(t, runs, views, pool, None);
     enter_bounded(shares, k, (i * 12 + 2) as u64, q, pool)
 }
 
@@ -102,11 +85,9 @@ pub fn shares_at(
     ensures shares_len_unchanged { length shares.new ≡ length shares.old }
 {
     let mut k = 0;
-    let mut i = 0;
-    while i < n {
+    for i in 0..n {
         let w = segments_of(sources, order, i);
         k = enter_share(w, prefix, segments, runs, views, pool, shares, k);
-        i += 1;
     }
     k
 }

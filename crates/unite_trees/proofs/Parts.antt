@@ -1,11 +1,10 @@
 -- Trees joined part by part, measured and laid. Assumes nothing.
+use Rattle.std.specs.Prelude.{None, Option, Some}
 use Prim.Native.Nat.{ℕ, zero, suc, ◌+◌, ◌-◌, ◌*◌, ◌/◌, ◌≤◌, ◌<◌}
 use mathlib.Core.Path.{◌≡◌, refl, sym, ap, ◌∙◌}
 use mathlib.Core.List.{List, [], ◌∷◌, ◌++◌, append-nil, map, map-append}
 use native.Mathlib.Omega.{arith}
 use lib.ListN.{length, get_or, length-append, get_or-eq_default}
-use Rattle.ids.specs.declared.ViewMark.TheVariants as view_marks
-use Rattle.ids.specs.declared.SstMark.TheVariants as sst_marks
 use Rattle.tables.specs.Layout.{write, up_to, joined}
 use Rattle.tables.specs.Window.{held_of}
 use Rattle.tables.specs.declared.Window.{Window}
@@ -24,8 +23,6 @@ use Rattle.records.proofs.Columns.{view_rows, run_rows, run_views}
 use Rattle.emit.proofs.Laid.{Walk}
 use Rattle.emit.proofs.Columns.{runs_counted}
 use Rattle.measure.specs.Walk.{add_of}
-use Rattle.measure.specs.declared.Measured.{Measured}
-use Rattle.measure.specs.declared.Measured.TheVariants.{Broken, Fills}
 use Rattle.measure.specs.Within.{tree_runs}
 use Rattle.project_views.proofs.Many.{all, sum_many, joined_many, column_many}
 use Rattle.project_views.proofs.Shows as shows
@@ -45,7 +42,7 @@ pub word_none : (t : List ℕ) (i : ℕ) → length t ≤ i → 0 ≡ get_or t i
 word_none t i h = sym (get_or-eq_default t 0 {n = i} h)
 
 pub tree_none : (t : List ℕ) (b : ℕ) → length t ≤ b
-    → record { view = view_marks.None; sst = sst_marks.None; l0 = record { first = 0; count = 0 }; compacted = record { first = 0; count = 0 } } ≡ tree_at t b
+    → record { view = None; sst = None; l0 = record { first = 0; count = 0 }; compacted = record { first = 0; count = 0 } } ≡ tree_at t b
 unfolding tree_at
 tree_none t b h =
     rw (
@@ -68,27 +65,27 @@ trees_fill (t ∷ ts) =
     (fill_same (omega arith, omega arith, omega arith, omega arith, omega arith, omega arith))
 
 -- a run is its views and its row
-module _ (most c : Fill) (views pool runs : List ℕ) (i : ℕ) (x : RunRow) (e : x ≡ run_at runs i) (s : Measured) (h : s ≡ add_of most c (sum view_fill (views_in views pool x.views))) where
+module _ (most c : Fill) (views pool runs : List ℕ) (i : ℕ) (x : RunRow) (e : x ≡ run_at runs i) (s : Option Fill) (h : s ≡ add_of most c (sum view_fill (views_in views pool x.views))) where
   run_parts : plus (sum view_fill (views_in views pool x.views)) (one_run 1) ≡ run_fill (run_in views pool (run_at runs i))
   unfolding run_in run_fill
   run_parts = rw e (fill_same (omega arith, omega arith, omega arith, omega arith, omega arith, omega arith))
 
-  pub run_broken : s ≡ Broken → Broken ≡ add_of most c (run_fill (run_in views pool (run_at runs i)))
+  pub run_broken : s ≡ None → None ≡ add_of most c (run_fill (run_in views pool (run_at runs i)))
   run_broken k = added_broken most c (sum view_fill (views_in views pool x.views)) (one_run 1) (run_fill (run_in views pool (run_at runs i))) run_parts s h k
 
-  pub run_added : (d : Fill) (r : Measured) → s ≡ Fills d → r ≡ add_of most d (one_run 1) → r ≡ add_of most c (run_fill (run_in views pool (run_at runs i)))
+  pub run_added : (d : Fill) (r : Option Fill) → s ≡ Some d → r ≡ add_of most d (one_run 1) → r ≡ add_of most c (run_fill (run_in views pool (run_at runs i)))
   run_added d r k m = added_on most c (sum view_fill (views_in views pool x.views)) (one_run 1) (run_fill (run_in views pool (run_at runs i))) run_parts s d r h k m
 
 -- a tree is its L0 and its runs
-module _ (most c : Fill) (views pool runs : List ℕ) (x y : TreeRow) (e : x ≡ y) (s : Measured) (h : s ≡ add_of most c (sum view_fill (views_in views pool x.l0))) where
+module _ (most c : Fill) (views pool runs : List ℕ) (x y : TreeRow) (e : x ≡ y) (s : Option Fill) (h : s ≡ add_of most c (sum view_fill (views_in views pool x.l0))) where
   tree_parts : plus (sum view_fill (views_in views pool x.l0)) (sum run_fill (runs_in runs views pool x.compacted)) ≡ tree_fill (tree_in runs views pool y)
   unfolding tree_in tree_fill
   tree_parts = rw e
 
-  pub tree_broken : s ≡ Broken → Broken ≡ add_of most c (tree_fill (tree_in runs views pool y))
+  pub tree_broken : s ≡ None → None ≡ add_of most c (tree_fill (tree_in runs views pool y))
   tree_broken k = added_broken most c (sum view_fill (views_in views pool x.l0)) (sum run_fill (runs_in runs views pool x.compacted)) (tree_fill (tree_in runs views pool y)) tree_parts s h k
 
-  pub tree_added : (d : Fill) (r : Measured) → s ≡ Fills d → r ≡ add_of most d (sum run_fill (runs_in runs views pool x.compacted)) → r ≡ add_of most c (tree_fill (tree_in runs views pool y))
+  pub tree_added : (d : Fill) (r : Option Fill) → s ≡ Some d → r ≡ add_of most d (sum run_fill (runs_in runs views pool x.compacted)) → r ≡ add_of most c (tree_fill (tree_in runs views pool y))
   tree_added d r k m = added_on most c (sum view_fill (views_in views pool x.l0)) (sum run_fill (runs_in runs views pool x.compacted)) (tree_fill (tree_in runs views pool y)) tree_parts s d r h k m
 
 -- ---- L0 of all trees, laid piece by piece

@@ -1,8 +1,6 @@
 -- Trees joined in order, and their runs numbered anew.
-use Rattle.std.specs.Prelude.{ℕ, ◌-◌, List, [], ◌∷◌, length}
+use Rattle.std.specs.Prelude.{ℕ, ◌-◌, List, [], ◌∷◌, length, None}
 use Rattle.tables.specs.Layout.{joined}
-use Rattle.ids.specs.declared.ViewMark.TheVariants as view_marks
-use Rattle.ids.specs.declared.SstMark.TheVariants as sst_marks
 use Rattle.records.specs.Model.{View, Run, Tree, Segment}
 use Rattle.measure.specs.Within.{tree_runs}
 
@@ -11,7 +9,7 @@ tree_l0 t = t.l0
 
 -- "unsegmented trees joined in order", "Watermarks are none."
 unfoldable pub joined_tree : List Tree → Tree
-joined_tree ts = record { view_mark = view_marks.None; sst_mark = sst_marks.None; l0 = joined tree_l0 ts; runs = joined tree_runs ts }
+joined_tree ts = record { view_mark = None; sst_mark = None; l0 = joined tree_l0 ts; runs = joined tree_runs ts }
 
 -- "Run ids descend from count-1 to 0": some runs in order, where `left` runs are left to be numbered, these the first of them
 unfoldable pub numbered : ℕ → List Run → List Run

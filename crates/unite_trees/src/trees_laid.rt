@@ -13,7 +13,6 @@ ghost use Rattle.unite_trees.specs.Steps.{renumbered, tree_of};
 
 use crate::trees_measured::tree_of;
 use emit::{LaidTree, put_run, put_views, tree_row};
-use ids::{SstMark, ViewMark};
 use records::{Fill, RunRow, run_at};
 use tables::{Window, held};
 
@@ -37,8 +36,7 @@ fn put_l0_at(
     ensures out_pool_after { out_pool.new ≡ write out_pool.old c.bytes (joined view_bytes (tree_l0 (tree_of t.now rows.now runs.now views.now pool.now i))) }
 {
     let x = tree_of(t, rows, i);
-    let l0 = x.l0;
-    put_views(views, l0, pool, out_views, out_pool, c)
+    put_views(views, x.l0, pool, out_views, out_pool, c)
 }
 
 // Appends L0 of the first `n` of them.
@@ -61,10 +59,8 @@ fn put_l0(
     ensures out_pool_after { out_pool.new ≡ write out_pool.old c.bytes (joined view_bytes (joined tree_l0 (trees_in t.now rows.now n runs.now views.now pool.now))) }
 {
     let mut to = c;
-    let mut k = 0;
-    while k < n {
+    for k in 0..n {
         to = put_l0_at(t, rows, k, runs, views, pool, out_views, out_pool, to);
-        k += 1;
     }
     to
 }
@@ -91,9 +87,8 @@ fn put_run_as(
     ensures out_pool_after { out_pool.new ≡ write out_pool.old c.bytes (run_bytes (run_in views.now pool.now (run_at runs.now i))) }
 {
     let x = run_at(runs, i);
-    let w = x.views;
     put_run(
-        RunRow { id, views: w },
+        RunRow { id, views: x.views },
         views,
         pool,
         out_runs,
@@ -125,14 +120,12 @@ fn put_numbered(
     ensures out_pool_after { out_pool.new ≡ write out_pool.old c.bytes (joined run_bytes (numbered left (runs_in runs.now views.now pool.now w))) }
 {
     let n = held(w, runs.len() / 3);
-    let first = w.first;
     let mut to = c;
-    let mut k = 0;
-    while k < n {
+    for k in 0..n {
         let id = left - k - 1;
         to = put_run_as(
             runs,
-            first + k,
+            w.first + k,
             id as u64,
             views,
             pool,
@@ -141,7 +134,6 @@ fn put_numbered(
             out_pool,
             to,
         );
-        k += 1;
     }
     to
 }
@@ -171,9 +163,16 @@ fn put_runs_at(
     ensures out_pool_after { out_pool.new ≡ write out_pool.old c.bytes (joined run_bytes (numbered left (tree_runs (tree_of t.now rows.now runs.now views.now pool.now i)))) }
 {
     let x = tree_of(t, rows, i);
-    let compacted = x.compacted;
     put_numbered(
-        runs, compacted, left, views, pool, out_runs, out_views, out_pool, c,
+        runs,
+        x.compacted,
+        left,
+        views,
+        pool,
+        out_runs,
+        out_views,
+        out_pool,
+        c,
     )
 }
 
@@ -202,13 +201,11 @@ fn put_joined_runs(
     ensures out_pool_after { out_pool.new ≡ write out_pool.old c.bytes (joined run_bytes (numbered left (joined tree_runs (trees_in t.now rows.now n runs.now views.now pool.now)))) }
 {
     let mut to = c;
-    let mut k = 0;
-    while k < n {
+    for k in 0..n {
         let rest = left - (to.runs - c.runs);
         to = put_runs_at(
             t, rows, k, rest, runs, views, pool, out_runs, out_views, out_pool, to,
         );
-        k += 1;
     }
     to
 }
@@ -242,6 +239,6 @@ pub fn put_joined(
     let past = put_joined_runs(
         t, rows, n, left, runs, views, pool, out_runs, out_views, out_pool, a,
     );
-    let tree = tree_row(ViewMark::None, SstMark::None, c, a, past);
+    let tree = tree_row(None, None, c, a, past);
     LaidTree { tree, past }
 }

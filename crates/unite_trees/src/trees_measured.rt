@@ -1,6 +1,6 @@
 // Trees, wherever they stand, measured: each part is added to `c`, which is at most `most`, and the first that is too much ends the walk.
 ghost use Rattle.std.specs.Prelude.{◌≡◌, true, ◌+◌, ◌*◌, ◌/◌, ◌≤◌, ◌<◌, length};
-ghost use Rattle.records.specs.Row.{at, window_at, view_mark_at, sst_mark_at, view_at, run_at, tree_at};
+ghost use Rattle.records.specs.Row.{at, window_at, mark_at, view_at, run_at, tree_at};
 ghost use Rattle.records.specs.Decode.{view_in, views_in, run_in, runs_in};
 ghost use Rattle.records.specs.Fill.{fits, sum, view_fill, run_fill, tree_fill};
 ghost use Rattle.measure.specs.Walk.{add_of};
@@ -8,8 +8,8 @@ ghost use Rattle.unite_trees.specs.Joined.{joined_tree};
 ghost use Rattle.unite_trees.specs.Rows.{trees_in};
 ghost use Rattle.unite_trees.specs.Steps.{tree_of};
 
-use ids::{SstId, SstMark, ViewId, ViewMark};
-use measure::{Measured, add, fits_in};
+use ids::Id;
+use measure::{add, fits_in};
 use project_views::add_view;
 use records::{Fill, TreeRow, run_at, view_at};
 use tables::{Window, held, ix};
@@ -35,25 +35,14 @@ fn window_at(t: &[u64], b: usize) -> Window
     }
 }
 
-fn view_mark_at(t: &[u64], b: usize) -> ViewMark
+fn mark_at<I: Id>(t: &[u64], b: usize) -> Option<I>
     requires { b ≤ length t.now + 8 }
-    ensures { result ≡ view_mark_at t.now b }
+    ensures { result ≡ mark_at I.of t.now b }
 {
-    let x = ViewId(word(t, b + 1), word(t, b + 2));
+    let x = I::of(word(t, b + 1), word(t, b + 2));
     match word(t, b) {
-        0 => ViewMark::None,
-        _ => ViewMark::Some(x),
-    }
-}
-
-fn sst_mark_at(t: &[u64], b: usize) -> SstMark
-    requires { b ≤ length t.now + 8 }
-    ensures { result ≡ sst_mark_at t.now b }
-{
-    let x = SstId(word(t, b + 1), word(t, b + 2));
-    match word(t, b) {
-        0 => SstMark::None,
-        _ => SstMark::Some(x),
+        0 => None,
+        _ => Some(x),
     }
 }
 
@@ -62,15 +51,15 @@ fn tree_at(t: &[u64], b: usize) -> TreeRow
 {
     if t.len() <= b {
         return TreeRow {
-            view: ViewMark::None,
-            sst: SstMark::None,
+            view: None,
+            sst: None,
             l0: Window { first: 0, count: 0 },
             compacted: Window { first: 0, count: 0 },
         };
     }
     TreeRow {
-        view: view_mark_at(t, b),
-        sst: sst_mark_at(t, b + 3),
+        view: mark_at(t, b),
+        sst: mark_at(t, b + 3),
         l0: window_at(t, b + 6),
         compacted: window_at(t, b + 8),
     }
@@ -88,7 +77,7 @@ pub fn tree_of(t: &[u64], rows: &[u64], i: usize) -> TreeRow
 // ---- measured: each part is added to `c`, which is at most `most`, and the first that is too much ends the walk
 
 // Adds view `i` of a table.
-fn add_view_at(most: Fill, views: &[u64], i: usize, pool: &[u8], c: Fill) -> Measured
+fn add_view_at(most: Fill, views: &[u64], i: usize, pool: &[u8], c: Fill) -> Option<Fill>
     requires { i < length views.now / 16 }
     ensures { result ≡ add_of most c (view_fill (view_in pool.now (view_at views.now i))) }
 {
@@ -97,37 +86,33 @@ fn add_view_at(most: Fill, views: &[u64], i: usize, pool: &[u8], c: Fill) -> Mea
 }
 
 // Adds the views of a window.
-fn add_views(most: Fill, views: &[u64], w: Window, pool: &[u8], c: Fill) -> Measured
+fn add_views(most: Fill, views: &[u64], w: Window, pool: &[u8], c: Fill) -> Option<Fill>
     requires { fits c most ≡ true }
     ensures { result ≡ add_of most c (sum view_fill (views_in views.now pool.now w)) }
 {
     let n = held(w, views.len() / 16);
-    let first = w.first;
     let mut d = c;
-    let mut k = 0;
-    while k < n {
-        let s = add_view_at(most, views, first + k, pool, d);
-        let Measured::Fills(e) = s else {
-            return Measured::Broken;
-        };
-        d = e;
-        k += 1;
+    for k in 0..n {
+        d = add_view_at(most, views, w.first + k, pool, d)?;
     }
-    Measured::Fills(d)
+    Some(d)
 }
 
 // Adds run `i` of a table, with its views.
-fn add_run_at(most: Fill, runs: &[u64], i: usize, views: &[u64], pool: &[u8], c: Fill) -> Measured
+fn add_run_at(
+    most: Fill,
+    runs: &[u64],
+    i: usize,
+    views: &[u64],
+    pool: &[u8],
+    c: Fill,
+) -> Option<Fill>
     requires i_in_bounds { i < length runs.now / 3 }
     requires most_value { fits c most ≡ true }
     ensures { result ≡ add_of most c (run_fill (run_in views.now pool.now (run_at runs.now i))) }
 {
     let x = run_at(runs, i);
-    let w = x.views;
-    let s = add_views(most, views, w, pool, c);
-    let Measured::Fills(d) = s else {
-        return Measured::Broken;
-    };
+    let d = add_views(most, views, x.views, pool, c)?;
     add(
         most,
         d,
@@ -143,23 +128,23 @@ fn add_run_at(most: Fill, runs: &[u64], i: usize, views: &[u64], pool: &[u8], c:
 }
 
 // Adds the runs of a window.
-fn add_runs(most: Fill, runs: &[u64], w: Window, views: &[u64], pool: &[u8], c: Fill) -> Measured
+fn add_runs(
+    most: Fill,
+    runs: &[u64],
+    w: Window,
+    views: &[u64],
+    pool: &[u8],
+    c: Fill,
+) -> Option<Fill>
     requires { fits c most ≡ true }
     ensures { result ≡ add_of most c (sum run_fill (runs_in runs.now views.now pool.now w)) }
 {
     let n = held(w, runs.len() / 3);
-    let first = w.first;
     let mut d = c;
-    let mut k = 0;
-    while k < n {
-        let s = add_run_at(most, runs, first + k, views, pool, d);
-        let Measured::Fills(e) = s else {
-            return Measured::Broken;
-        };
-        d = e;
-        k += 1;
+    for k in 0..n {
+        d = add_run_at(most, runs, w.first + k, views, pool, d)?;
     }
-    Measured::Fills(d)
+    Some(d)
 }
 
 // Adds the tree that row `i` of `rows` names.
@@ -172,19 +157,14 @@ fn add_tree_at(
     views: &[u64],
     pool: &[u8],
     c: Fill,
-) -> Measured
+) -> Option<Fill>
     requires i_in_bounds { (i + 1) * 7 ≤ length rows.now }
     requires most_value { fits c most ≡ true }
     ensures { result ≡ add_of most c (tree_fill (tree_of t.now rows.now runs.now views.now pool.now i)) }
 {
     let x = tree_of(t, rows, i);
-    let l0 = x.l0;
-    let compacted = x.compacted;
-    let s = add_views(most, views, l0, pool, c);
-    let Measured::Fills(d) = s else {
-        return Measured::Broken;
-    };
-    add_runs(most, runs, compacted, views, pool, d)
+    let d = add_views(most, views, x.l0, pool, c)?;
+    add_runs(most, runs, x.compacted, views, pool, d)
 }
 
 // What the trees joined fill, with `c`, where it is at most `most`.
@@ -198,22 +178,16 @@ pub fn measure_joined(
     views: &[u64],
     pool: &[u8],
     c: Fill,
-) -> Measured
+) -> Option<Fill>
     requires { n * 7 ≤ length rows.now }
     ensures { result ≡ add_of most c (tree_fill (joined_tree (trees_in t.now rows.now n runs.now views.now pool.now))) }
 {
     if !fits_in(c, most) {
-        return Measured::Broken;
+        return None;
     }
     let mut d = c;
-    let mut k = 0;
-    while k < n {
-        let s = add_tree_at(most, t, rows, k, runs, views, pool, d);
-        let Measured::Fills(e) = s else {
-            return Measured::Broken;
-        };
-        d = e;
-        k += 1;
+    for k in 0..n {
+        d = add_tree_at(most, t, rows, k, runs, views, pool, d)?;
     }
-    Measured::Fills(d)
+    Some(d)
 }

@@ -1,4 +1,5 @@
 -- What a view of the caller's own table shows: the segments of the manifest that the window names, and no others.
+use Rattle.std.specs.Prelude.{Some}
 use Prim.Native.Nat.{ℕ, zero, suc, ◌+◌, ◌-◌, ◌*◌, ◌/◌, ◌<◌, min}
 use mathlib.Core.Path.{◌≡◌, refl, sym, ap, ◌∙◌}
 use mathlib.Core.List.{List, [], ◌∷◌, ◌++◌, map}
@@ -13,7 +14,6 @@ use Rattle.records.specs.Row.{at, tree_at, segment_at}
 use Rattle.records.specs.Decode.{Lent, segment_in, segments_in, manifest_in}
 use Rattle.records.specs.declared.ManifestRow.{ManifestRow}
 use Rattle.window.specs.Rows.{part_in, rows_of, shown, read_of, segments_read}
-use Rattle.window.specs.declared.Read.TheVariants.{Row}
 use Rattle.window.proofs.Rows.{part_within, row_there, row_read}
 
 up_to_same : {A : Type 0} (f g : ℕ → A) (n : ℕ) → ((k : ℕ) → k < n → f k ≡ g k) → up_to f n ≡ up_to g n
@@ -52,12 +52,12 @@ module _ (t : List ℕ) (w : Window) where
       rw e (up_to_same (λ k. segment_at (part_in t w) k) (λ k. segment_at t (w.first + k)) n (λ k h. row_same (part_in t w) t k (w.first + k) (λ j l. part_words k j h l)))
 
   -- "a view of the caller's own segment table": row i of the view is a row of that table, counted from the manifest's own first segment
-  pub row_own : (first past i : ℕ) → i < length (shown (part_in t w) first past) → read_of (shown (part_in t w) first past) i ≡ Row (segment_at t (w.first + (first + i)))
+  pub row_own : (first past i : ℕ) → i < length (shown (part_in t w) first past) → read_of (shown (part_in t w) first past) i ≡ Some (segment_at t (w.first + (first + i)))
   row_own first past i h =
       let l : first + i < length (part_in t w) / 12 = row_there (part_in t w) first past _ i refl h in
       let k : first + i < n = omega (arith, part_length) in
       sym (row_read (part_in t w) first past _ i refl (segment_at (part_in t w) (first + i)) h refl)
-      ∙ ap Row (row_same (part_in t w) t (first + i) (w.first + (first + i)) (λ j m. part_words (first + i) j k m))
+      ∙ ap Some (row_same (part_in t w) t (first + i) (w.first + (first + i)) (λ j m. part_words (first + i) j k m))
 
 -- ---- lists of rows and of segments
 module _ {A B : Type 0} (f : A → B) where

@@ -1,4 +1,5 @@
 -- What the arms of the covered functions know. Assumes nothing.
+use Rattle.std.specs.Prelude.{None, Some}
 use Prim.Native.Nat.{ℕ, zero, suc, ◌+◌, ◌-◌, ◌*◌, ◌/◌, ◌^◌, ◌≤◌, ◌<◌, min}
 use mathlib.Core.Path.{◌≡◌, refl, sym, ap, ◌∙◌}
 use mathlib.Core.Bool.{Bool, true, false}
@@ -17,19 +18,18 @@ use Rattle.tables.proofs.Joined.{up_to_length}
 use Rattle.records.specs.Row.{segment_at}
 use Rattle.records.specs.declared.SegmentRow.{SegmentRow}
 use Rattle.window.specs.Rows.{part_in, rows_of, shown, read_of}
-use Rattle.window.specs.declared.Read.TheVariants.{Row, Past}
 
 pub up_to_at : {A : Type 0} (g : ℕ → A) (n i : ℕ) (d : A) → i < n → get_or (up_to g n) i d ≡ g i
 up_to_at g zero i d h = absurd (omega arith)
 up_to_at g (suc n) zero d h = rw (up_to_front g n)
 up_to_at g (suc n) (suc i) d h = rw (up_to_front g n) (up_to_at (λ k. g (suc k)) n i d (omega arith))
 
-read_row : (rs : List SegmentRow) (i : ℕ) (d : SegmentRow) → i < length rs → read_of rs i ≡ Row (get_or rs i d)
+read_row : (rs : List SegmentRow) (i : ℕ) (d : SegmentRow) → i < length rs → read_of rs i ≡ Some (get_or rs i d)
 read_row [] i d h = absurd (omega arith)
 read_row (r ∷ rs) zero d h = refl
 read_row (r ∷ rs) (suc i) d h = read_row rs i d (omega arith)
 
-read_past : (rs : List SegmentRow) (i : ℕ) → length rs ≤ i → read_of rs i ≡ Past
+read_past : (rs : List SegmentRow) (i : ℕ) → length rs ≤ i → read_of rs i ≡ None
 read_past [] i h = refl
 read_past (r ∷ rs) zero h = absurd (omega arith)
 read_past (r ∷ rs) (suc i) h = read_past rs i (omega arith)
@@ -59,14 +59,14 @@ module _ (t : List ℕ) (first past : ℕ) where
     pub row_small : i < n → length t < 2 ^ 64 → first + i < 2 ^ 64
     row_small h l = omega (arith, row_there h)
 
-    pub row_read : (s : SegmentRow) → i < n → s ≡ segment_at t (first + i) → Row s ≡ read_of (shown t first past) i
+    pub row_read : (s : SegmentRow) → i < n → s ≡ segment_at t (first + i) → Some s ≡ read_of (shown t first past) i
     unfolding shown
     row_read s h g =
         sym
         (read_row (shown t first past) i s (rw e at h)
-        ∙ ap Row (get_or-drop first (take past (rows_of t)) i s ∙ get_or-take past (rows_of t) (first + i) s (before_past h) ∙ up_to_at (λ k. segment_at t k) (length t / 12) (first + i) s (row_there h) ∙ sym g))
+        ∙ ap Some (get_or-drop first (take past (rows_of t)) i s ∙ get_or-take past (rows_of t) (first + i) s (before_past h) ∙ up_to_at (λ k. segment_at t k) (length t / 12) (first + i) s (row_there h) ∙ sym g))
 
-    pub row_past : n ≤ i → Past ≡ read_of (shown t first past) i
+    pub row_past : n ≤ i → None ≡ read_of (shown t first past) i
     row_past h = sym (read_past (shown t first past) i (rw e at h))
 
 pub ruleset rows = (rows_some, rows_none, row_there, row_small, row_read, row_past)

@@ -1,5 +1,5 @@
 -- The selected segments as a view of the caller's own segment table.
-use Rattle.std.specs.Prelude.{ℕ, zero, suc, ◌*◌, ◌/◌, List, [], ◌∷◌, map, length, take, drop}
+use Rattle.std.specs.Prelude.{ℕ, zero, suc, ◌*◌, ◌/◌, List, [], ◌∷◌, map, length, take, drop, Err, None, Ok, Option, Result, Some}
 use Rattle.std.proofs.Math.Seq.{slice}
 use Rattle.tables.specs.Layout.{up_to}
 use Rattle.tables.specs.Window.{held_of}
@@ -8,11 +8,10 @@ use Rattle.records.specs.Model.{Segment}
 use Rattle.records.specs.Row.{segment_at}
 use Rattle.records.specs.Decode.{Lent, segment_in}
 use Rattle.records.specs.declared.SegmentRow.{SegmentRow}
-use Rattle.segments.specs.declared.Selected.{Selected}
 use Rattle.segments.specs.declared.Selected.TheVariants as select
 use Rattle.window.specs.declared.SegmentWindow.{SegmentWindow}
-use Rattle.window.specs.declared.Read.{Read}
-use Rattle.window.specs.declared.Read.TheVariants.{Row, Past}
+use Rattle.segments.specs.declared.Selected.{Selected}
+use Rattle.records.specs.declared.Refusal.{Refusal}
 
 -- the rows of a table of segments, in order
 abbrev pub rows_of : List ℕ → List SegmentRow
@@ -27,21 +26,21 @@ unfoldable pub shown : List ℕ → ℕ → ℕ → List SegmentRow
 shown t first past = slice first past (rows_of t)
 
 -- row i of some rows; past their end there is none
-abbrev pub read_of : List SegmentRow → ℕ → Read
-read_of [] i = Past
-read_of (r ∷ rs) zero = Row r
+abbrev pub read_of : List SegmentRow → ℕ → Option SegmentRow
+read_of [] i = None
+read_of (r ∷ rs) zero = Some r
 read_of (r ∷ rs) (suc i) = read_of rs i
 
 -- "the window: demand 3's segments, 0 to 0 for none": what an answer names; "unsegmented" counts as no segment, and a refusal names none
-abbrev pub first_in : Selected → ℕ
-first_in select.Unsegmented = 0
-first_in (select.Window first past) = first
-first_in (select.Refused r) = 0
+abbrev pub first_in : Result Selected Refusal → ℕ
+first_in (Ok select.Unsegmented) = 0
+first_in (Ok (select.Window first past)) = first
+first_in (Err r) = 0
 
-abbrev pub past_in : Selected → ℕ
-past_in select.Unsegmented = 0
-past_in (select.Window first past) = past
-past_in (select.Refused r) = 0
+abbrev pub past_in : Result Selected Refusal → ℕ
+past_in (Ok select.Unsegmented) = 0
+past_in (Ok (select.Window first past)) = past
+past_in (Err r) = 0
 
 -- "a thin struct holding the table reference with first and past-last index": what it holds, the table as it can be read
 pub record View : Type 0 where
@@ -54,7 +53,7 @@ view_of w = record { table = w.table.now; first = w.first; past = w.past }
 
 -- "The window is handed back as a view of the caller's own segment table": the part that holds the manifest's segments, from whose first
 -- the window counts, and what the answer names
-abbrev pub selected_in : List ℕ → Window → Selected → View
+abbrev pub selected_in : List ℕ → Window → Result Selected Refusal → View
 selected_in t w s = record { table = part_in t w; first = first_in s; past = past_in s }
 
 -- the segments that rows stand for, in the caller's other tables

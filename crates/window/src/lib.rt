@@ -5,7 +5,7 @@
 ghost use Rattle.std.specs.Prelude.{◌≡◌, min, length};
 ghost use Rattle.window.specs.Rows.{part_in, shown, read_of, first_in, past_in, view_of, selected_in};
 
-use records::{SegmentRow, segment_at};
+use records::{Refusal, SegmentRow, segment_at};
 use segments::Selected;
 use tables::{Window, held};
 
@@ -15,13 +15,6 @@ pub struct SegmentWindow<'a> {
     pub table: &'a [u64],
     pub first: usize,
     pub past: usize,
-}
-
-// What is read at a place of a window; there is nothing past its end.
-#[derive(Clone, Copy)]
-pub enum Read {
-    Row(SegmentRow),
-    Past,
 }
 
 // ---- on the slice and the numbers
@@ -57,34 +50,34 @@ pub fn rows_in(table: &[u64], first: usize, past: usize) -> usize
 }
 
 // Row `i` of those.
-pub fn row_in(table: &[u64], first: usize, past: usize, i: usize) -> Read
+pub fn row_in(table: &[u64], first: usize, past: usize, i: usize) -> Option<SegmentRow>
     ensures { result ≡ read_of (shown table.now first past) i }
 {
     if i < rows_in(table, first, past) {
         let s = segment_at(table, first + i);
-        return Read::Row(s);
+        return Some(s);
     }
-    Read::Past
+    None
 }
 
 // The first index of what a selection names, and the past-last one.
-fn first_in(s: Selected) -> usize
+fn first_in(s: Result<Selected, Refusal>) -> usize
     ensures { result ≡ first_in s }
 {
     match s {
-        Selected::Unsegmented => 0,
-        Selected::Window(first, _) => first,
-        Selected::Refused(_) => 0,
+        Ok(Selected::Unsegmented) => 0,
+        Ok(Selected::Window(first, _)) => first,
+        Err(_) => 0,
     }
 }
 
-fn past_in(s: Selected) -> usize
+fn past_in(s: Result<Selected, Refusal>) -> usize
     ensures { result ≡ past_in s }
 {
     match s {
-        Selected::Unsegmented => 0,
-        Selected::Window(_, past) => past,
-        Selected::Refused(_) => 0,
+        Ok(Selected::Unsegmented) => 0,
+        Ok(Selected::Window(_, past)) => past,
+        Err(_) => 0,
     }
 }
 
@@ -105,21 +98,30 @@ pub fn count<'a>(w: SegmentWindow<'a>) -> usize
 }
 
 // Row `i` of the window.
-pub fn row_at<'a>(w: SegmentWindow<'a>, i: usize) -> Read
+pub fn row_at<'a>(w: SegmentWindow<'a>, i: usize) -> Option<SegmentRow>
     ensures { result ≡ read_of (shown w.entry.table.now w.entry.first w.entry.past) i }
 {
     row_in(w.table, w.first, w.past, i)
 }
 
 // What `select_segments` answered for the manifest whose segments are `w`, as a view of the caller's table.
-pub fn selected_window<'a>(segments: &'a [u64], w: Window, s: Selected) -> SegmentWindow<'a>
+pub fn selected_window<'a>(
+    segments: &'a [u64],
+    w: Window,
+    s: Result<Selected, Refusal>,
+) -> SegmentWindow<'a>
     ensures { view_of result ≡ selected_in segments.now w s }
 {
     window_of(part_of_table(segments, w), first_in(s), past_in(s))
 }
 
 // Row `i` of what a selection names: plain parameters, and the view in a local.
-pub fn selected_row(segments: &[u64], w: Window, s: Selected, i: usize) -> Read
+pub fn selected_row(
+    segments: &[u64],
+    w: Window,
+    s: Result<Selected, Refusal>,
+    i: usize,
+) -> Option<SegmentRow>
     ensures { result ≡ read_of (shown (part_in segments.now w) (first_in s) (past_in s)) i }
 {
     row_at(selected_window(segments, w, s), i)

@@ -4,8 +4,8 @@ use Rattle.encoded_project.proofs.call_over.Goals as goal
 pub returns-then-long-gt-LONGEST : goal.returns-then-long-gt-LONGEST
 returns-then-long-gt-LONGEST c = let x = c.args in call_long x.most x.long x.n x.g c.if-long-gt-LONGEST.true
 
-pub returns-in-Unset : goal.returns-in-Unset
-returns-in-Unset c = call_unset _ _ _ _ c.if-long-gt-LONGEST.false c.in-Unset.is
+pub returns-in-None : goal.returns-in-None
+returns-in-None c = call_unset _ _ _ _ c.if-long-gt-LONGEST.false c.in-None.is
 
-pub returns-in-Set : goal.returns-in-Set
-returns-in-Set c = call_set _ _ _ _ c.if-long-gt-LONGEST.false _ _ c.in-Set.is c.range_over.ensures
+pub returns-in-Some : goal.returns-in-Some
+returns-in-Some c = call_set _ _ _ _ c.if-long-gt-LONGEST.false _ _ c.in-Some.is c.range_over.ensures

@@ -1,4 +1,4 @@
 use Rattle.encoded_union.proofs.put_source.Goals as goal
 
 pub returns : goal.returns
-returns c = rw (← c.source_words-row.ensures) c.put_words.ensures
+returns c = rw (← c.source_words.ensures) c.put.ensures.out_after

@@ -1,6 +1,5 @@
 use Rattle.encoded_united.proofs.Lending.{lent_is}
-use Rattle.encoded_united.proofs.Lending.{lent_is}
 use Rattle.encoded_united.proofs.lend_fresh.Goals as goal
 
 pub returns : goal.returns
-returns c = lent_is _ _ _ _ c.put_words.ensures c.clear.ensures
+returns c = lent_is _ _ _ _ c.put.ensures.out_after c.clear.ensures

@@ -1,16 +1,23 @@
--- `ids::names` meets its contract. The loop's invariant: `x` is not among the ids before `i`. Assumes nothing.
-use native.Mathlib.Omega.{arith}
+-- `ids::names` meets its contract. The loop's invariant: what is left of the words names `x` exactly if all of them do. Assumes
+-- nothing.
 use Rattle.ids.proofs.Words.{left_none, left_here, left_more, left_all}
 use Rattle.ids.proofs.names.Goals as goal
 
-pub loop-i-init : goal.loop-i-init
-loop-i-init c = left_none _ _
+pub loop-words-init : goal.loop-words-init
+loop-words-init c =
+    let e = c.into_iter-words-iterator.ensures.into_iter_gives in
+    let m = c.chunks_exact-words-items.ensures in
+    left_none _ _ _ _ (rw e m.rest) (rw e m.size)
 
-pub returns-then-same_sst : goal.returns-then-same_sst
-returns-then-same_sst c = left_here _ _ _ c.loop-i.invariant _ (omega arith) c.same_sst.ensures c.if-same_sst.true
+pub returns-then-same : goal.returns-then-same
+returns-then-same c =
+    let s = c.in-Some.ensures.steps.1 in
+    left_here _ _ _ _ c.loop-words.invariant _ _ s.0 s.1 _ c.same.ensures c.if-same.true
 
-pub loop-i-preserved : goal.loop-i-preserved
-loop-i-preserved c = left_more _ _ _ c.loop-i.invariant _ (omega arith) c.same_sst.ensures c.if-same_sst.false
+pub loop-words-preserved : goal.loop-words-preserved
+loop-words-preserved c =
+    let s = c.in-Some.ensures.steps.1 in
+    left_more _ _ _ _ c.loop-words.invariant _ _ s.0 s.1 _ c.same.ensures _ c.in-Some.ensures.steps.0 c.if-same.false
 
 pub returns : goal.returns
-returns c = left_all _ _ _ c.loop-i.invariant (omega arith)
+returns c = left_all _ _ _ _ c.loop-words.invariant c.in-None.ensures.steps.1.0

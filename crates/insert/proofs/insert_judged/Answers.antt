@@ -17,8 +17,8 @@ check_segment_prefix_antichain-requires c = c.find_place-place.ensures
 pub enter-requires : goal.enter-requires
 enter-requires c = let a = c.args in let x : Lent = record { segments = a.segments.now; views = a.views.now; runs = a.runs.now; borrows = a.borrows.now; ids = a.ids.now; pool = a.pool.now } in record { m_value = lawful_first a.lim x a.m c.requires.m_value; place_value = c.find_place-place.ensures }
 
-pub returns-in-Conflict : goal.returns-in-Conflict
-returns-in-Conflict c = let a = c.args in let x : Lent = record { segments = a.segments.now; views = a.views.now; runs = a.runs.now; borrows = a.borrows.now; ids = a.ids.now; pool = a.pool.now } in let o : Lent = record { segments = a.out_segments.now; views = a.out_views.now; runs = a.out_runs.now; borrows = a.out_borrows.now; ids = a.out_ids.now; pool = a.out_pool.now } in judged_nests a.lim x a.m c.requires.m_value a.prefix.now o c.requires.prefix_len_bound _ c.find_place-place.ensures _ c.is_held.ensures c.if-is_held.false _ c.check_segment_prefix_antichain.ensures _ c.in-Conflict.is
+pub returns-in-Some : goal.returns-in-Some
+returns-in-Some c = let a = c.args in let x : Lent = record { segments = a.segments.now; views = a.views.now; runs = a.runs.now; borrows = a.borrows.now; ids = a.ids.now; pool = a.pool.now } in let o : Lent = record { segments = a.out_segments.now; views = a.out_views.now; runs = a.out_runs.now; borrows = a.out_borrows.now; ids = a.out_ids.now; pool = a.out_pool.now } in judged_nests a.lim x a.m c.requires.m_value a.prefix.now o c.requires.prefix_len_bound _ c.find_place-place.ensures _ c.is_held.ensures c.if-is_held.false _ c.check_segment_prefix_antichain.ensures _ c.in-Some.is
 
-pub returns-in-Free : goal.returns-in-Free
-returns-in-Free c = let a = c.args in let x : Lent = record { segments = a.segments.now; views = a.views.now; runs = a.runs.now; borrows = a.borrows.now; ids = a.ids.now; pool = a.pool.now } in let o : Lent = record { segments = a.out_segments.now; views = a.out_views.now; runs = a.out_runs.now; borrows = a.out_borrows.now; ids = a.out_ids.now; pool = a.out_pool.now } in judged_enters a.lim x a.m c.requires.m_value a.prefix.now o c.requires.prefix_len_bound _ c.find_place-place.ensures _ c.is_held.ensures c.if-is_held.false _ c.check_segment_prefix_antichain.ensures c.in-Free.is _ c.enter.ensures
+pub returns-in-None : goal.returns-in-None
+returns-in-None c = let a = c.args in let x : Lent = record { segments = a.segments.now; views = a.views.now; runs = a.runs.now; borrows = a.borrows.now; ids = a.ids.now; pool = a.pool.now } in let o : Lent = record { segments = a.out_segments.now; views = a.out_views.now; runs = a.out_runs.now; borrows = a.out_borrows.now; ids = a.out_ids.now; pool = a.out_pool.now } in judged_enters a.lim x a.m c.requires.m_value a.prefix.now o c.requires.prefix_len_bound _ c.find_place-place.ensures _ c.is_held.ensures c.if-is_held.false _ c.check_segment_prefix_antichain.ensures c.in-None.is _ c.enter.ensures

@@ -1,8 +1,5 @@
 use Rattle.keys.proofs.Grows.{Dropped}
 use Rattle.keys.proofs.successor_of.Given as goal
 
-abbrev pub invariant-loop-n : goal.invariant-loop-n
-invariant-loop-n l = Dropped l.p l.n
-
-abbrev pub decreases-loop-n : goal.decreases-loop-n
-decreases-loop-n l = l.n
+abbrev pub invariant-loop-i : goal.invariant-loop-i
+invariant-loop-i l = Dropped l.p l.i

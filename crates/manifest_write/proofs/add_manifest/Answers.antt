@@ -9,5 +9,5 @@ returns c = group _ _ _ _ _ _ _ c.add_array-p0.ensures
     (several _ _ _ _ _ _ _ _ c.add_front-p1.ensures
     (several _ _ _ _ _ _ _ _ c.add_numbers-p2.ensures
     (more _ _ _ _ _ _ _ _ c.add_borrows-p3.ensures
-    (more _ _ _ _ _ _ _ _ c.add_uint-p4.ensures
-    (last _ _ _ _ _ c.add_uint.ensures)))))
+    (more _ _ _ _ _ _ _ _ c.add_head-p4.ensures
+    (last _ _ _ _ _ c.add_head.ensures)))))

@@ -10,8 +10,8 @@ own_fault-requires c = let a = c.args in let l : Lent = record { segments = a.se
 pub give-requires : goal.give-requires
 give-requires c = let a = c.args in let l : Lent = record { segments = a.segments.now; views = a.views.now; runs = a.runs.now; borrows = a.borrows.now; ids = a.ids.now; pool = a.pool.now } in let p = c.requires in record { w_value = (ascends_of a.lim l a.writer p.0, ascends_of a.lim l a.compactor p.1); w_value_2 = (rows_of a.lim l a.writer p.0, rows_of a.lim l a.compactor p.1) }
 
-pub returns-in-Is : goal.returns-in-Is
-returns-in-Is c = let a = c.args in let l : Lent = record { segments = a.segments.now; views = a.views.now; runs = a.runs.now; borrows = a.borrows.now; ids = a.ids.now; pool = a.pool.now } in let o : LentList = record { segments = a.out_segments.now; views = a.out_views.now; runs = a.out_runs.now; pool = a.out_pool.now } in judged_refused a.side a.lim l a.writer a.compactor o _ c.own_fault.ensures _ c.in-Is.is
+pub returns-in-Some : goal.returns-in-Some
+returns-in-Some c = let a = c.args in let l : Lent = record { segments = a.segments.now; views = a.views.now; runs = a.runs.now; borrows = a.borrows.now; ids = a.ids.now; pool = a.pool.now } in let o : LentList = record { segments = a.out_segments.now; views = a.out_views.now; runs = a.out_runs.now; pool = a.out_pool.now } in judged_refused a.side a.lim l a.writer a.compactor o _ c.own_fault.ensures _ c.in-Some.is
 
-pub returns-in-Nothing : goal.returns-in-Nothing
-returns-in-Nothing c = let a = c.args in let l : Lent = record { segments = a.segments.now; views = a.views.now; runs = a.runs.now; borrows = a.borrows.now; ids = a.ids.now; pool = a.pool.now } in let o : LentList = record { segments = a.out_segments.now; views = a.out_views.now; runs = a.out_runs.now; pool = a.out_pool.now } in judged_given a.side a.lim l a.writer a.compactor o _ c.own_fault.ensures c.in-Nothing.is _ c.give.ensures
+pub returns-in-None : goal.returns-in-None
+returns-in-None c = let a = c.args in let l : Lent = record { segments = a.segments.now; views = a.views.now; runs = a.runs.now; borrows = a.borrows.now; ids = a.ids.now; pool = a.pool.now } in let o : LentList = record { segments = a.out_segments.now; views = a.out_views.now; runs = a.out_runs.now; pool = a.out_pool.now } in judged_given a.side a.lim l a.writer a.compactor o _ c.own_fault.ensures c.in-None.is _ c.give.ensures

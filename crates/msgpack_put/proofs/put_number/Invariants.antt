@@ -1,13 +1,8 @@
-use Prim.Native.Nat.{◌≤◌}
 use mathlib.Core.Path.{◌≡◌}
-use lib.ListN.{length}
 use lib.Seq.{sets}
 use Rattle.keys.specs.BigEndian.{be_bytes}
 use Rattle.msgpack_put.proofs.put_number.Given as goal
 
 -- what is still to be stored, stored now, gives the whole
 abbrev pub invariant-loop-i : goal.invariant-loop-i
-invariant-loop-i l = (l.i ≤ l.n) × (length l.out ≡ length l.initial.out) × (sets l.out l.at (be_bytes l.i l.y) ≡ sets l.initial.out l.at (be_bytes l.n l.x))
-
-abbrev pub decreases-loop-i : goal.decreases-loop-i
-decreases-loop-i l = l.i
+invariant-loop-i l = sets l.out l.at (be_bytes l.i l.y) ≡ sets l.initial.out l.at (be_bytes l.n l.x)

@@ -1,7 +1,7 @@
 use Prim.Native.Nat.{◌/◌}
 use lib.ListN.{length}
 use Rattle.records.specs.Decode.{Lent}
-use Rattle.project.proofs.Answers.{judged_empty, judged_mask, judged_own_empty, judged_outside, judged_given}
+use Rattle.project.proofs.Answers.{judged_empty, judged_mask, judged_own, judged_given}
 use Rattle.project.proofs.projected_judged.Goals as goal
 
 pub returns-then-global_empty : goal.returns-then-global_empty
@@ -16,8 +16,5 @@ give-requires c = c.requires
 pub returns-in-None : goal.returns-in-None
 returns-in-None c = let a = c.args in let x : Lent = record { segments = a.segments.now; views = a.views.now; runs = a.runs.now; borrows = a.borrows.now; ids = a.ids.now; pool = a.pool.now } in let o : Lent = record { segments = a.out_segments.now; views = a.out_views.now; runs = a.out_runs.now; borrows = a.out_borrows.now; ids = a.out_ids.now; pool = a.out_pool.now } in judged_given a.lim x a.m a.c a.own.now (length a.used.now / 2) o _ c.global_empty.ensures c.if-global_empty.false _ c.held-n.ensures _ c.mask_over.ensures c.if-mask_over.false _ c.own_fault.ensures _ c.in-None.is c.give.ensures
 
-pub returns-in-Empty : goal.returns-in-Empty
-returns-in-Empty c = let a = c.args in let x : Lent = record { segments = a.segments.now; views = a.views.now; runs = a.runs.now; borrows = a.borrows.now; ids = a.ids.now; pool = a.pool.now } in let o : Lent = record { segments = a.out_segments.now; views = a.out_views.now; runs = a.out_runs.now; borrows = a.out_borrows.now; ids = a.out_ids.now; pool = a.out_pool.now } in judged_own_empty a.lim x a.m a.c a.own.now (length a.used.now / 2) o _ c.global_empty.ensures c.if-global_empty.false _ c.held-n.ensures _ c.mask_over.ensures c.if-mask_over.false _ c.own_fault.ensures _ c.in-Empty.is
-
-pub returns-in-Outside : goal.returns-in-Outside
-returns-in-Outside c = let a = c.args in let x : Lent = record { segments = a.segments.now; views = a.views.now; runs = a.runs.now; borrows = a.borrows.now; ids = a.ids.now; pool = a.pool.now } in let o : Lent = record { segments = a.out_segments.now; views = a.out_views.now; runs = a.out_runs.now; borrows = a.out_borrows.now; ids = a.out_ids.now; pool = a.out_pool.now } in judged_outside a.lim x a.m a.c a.own.now (length a.used.now / 2) o _ c.global_empty.ensures c.if-global_empty.false _ c.held-n.ensures _ c.mask_over.ensures c.if-mask_over.false _ c.own_fault.ensures _ c.in-Outside.is
+pub returns-in-Some : goal.returns-in-Some
+returns-in-Some c = let a = c.args in let x : Lent = record { segments = a.segments.now; views = a.views.now; runs = a.runs.now; borrows = a.borrows.now; ids = a.ids.now; pool = a.pool.now } in let o : Lent = record { segments = a.out_segments.now; views = a.out_views.now; runs = a.out_runs.now; borrows = a.out_borrows.now; ids = a.out_ids.now; pool = a.out_pool.now } in judged_own a.lim x a.m a.c a.own.now (length a.used.now / 2) o _ c.global_empty.ensures c.if-global_empty.false _ c.held-n.ensures _ c.mask_over.ensures c.if-mask_over.false _ c.own_fault.ensures _ c.in-Some.is

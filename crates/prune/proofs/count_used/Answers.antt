@@ -11,9 +11,9 @@ pub loop-k-init : goal.loop-k-init
 unfolding ids_in
 loop-k-init c = counted_none
 
-pub overflow_add-first : goal.overflow_add-first
+pub overflow_add-w : goal.overflow_add-w
 unfolding ids_in
-overflow_add-first c = omega (arith, held_in c.args.w (length c.args.ids.now / 2) c.loop-k.k (omega arith))
+overflow_add-w c = omega (arith, held_in c.args.w (length c.args.ids.now / 2) c.loop-k.k (omega arith))
 
 pub used_at-m-requires : goal.used_at-m-requires
 unfolding ids_in

@@ -5,7 +5,4 @@ use Rattle.prune.proofs.Used.{Counted}
 use Rattle.prune.proofs.count_used.Given as goal
 
 abbrev pub invariant-loop-k : goal.invariant-loop-k
-invariant-loop-k l = Counted (ids_of l.used) (λ i. id_at l.ids (l.first + i)) l.n l.m l.k
-
-abbrev pub decreases-loop-k : goal.decreases-loop-k
-decreases-loop-k l = l.n - l.k
+invariant-loop-k l = Counted (ids_of l.used) (λ i. id_at l.ids (l.w.first + i)) l.n l.m l.k

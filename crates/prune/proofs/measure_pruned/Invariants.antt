@@ -6,7 +6,4 @@ use Rattle.prune.proofs.Kept.{piece_in}
 use Rattle.prune.proofs.measure_pruned.Given as goal
 
 abbrev pub invariant-loop-k : goal.invariant-loop-k
-invariant-loop-k l = Summed l.most (sum borrow_fill) (piece_in (ids_of l.used) l.borrows l.ids l.pool l.first) l.n l.initial.d l.d l.k
-
-abbrev pub decreases-loop-k : goal.decreases-loop-k
-decreases-loop-k l = l.n - l.k
+invariant-loop-k l = Summed l.most (sum borrow_fill) (piece_in (ids_of l.used) l.borrows l.ids l.pool l.w.first) l.n l.initial.d l.d l.k

@@ -12,9 +12,9 @@ pub loop-k-init : goal.loop-k-init
 unfolding borrows_laid
 loop-k-init c = let a = c.args in let f = kept_fill (ids_of a.used.now) a.borrows.now a.ids.now a.pool.now a.w _ c.held-n.ensures in (walk_none, grown_none (rw f c.requires.w_in_bounds), grown_none (rw f c.requires.w_in_bounds_2), grown_none (rw f c.requires.w_in_bounds_3))
 
-pub overflow_add-first : goal.overflow_add-first
+pub overflow_add-w : goal.overflow_add-w
 unfolding borrows_laid
-overflow_add-first c = omega (arith, held_in c.args.w (length c.args.borrows.now / 9) c.loop-k.k (omega arith))
+overflow_add-w c = omega (arith, held_in c.args.w (length c.args.borrows.now / 9) c.loop-k.k (omega arith))
 
 pub put_kept_at-to-requires : goal.put_kept_at-to-requires
 unfolding borrows_laid

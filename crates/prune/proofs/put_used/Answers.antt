@@ -10,8 +10,8 @@ use Rattle.prune.proofs.put_used.Goals as goal
 pub loop-k-init : goal.loop-k-init
 loop-k-init c = let a = c.args in listed_none _ (used_pieces (ids_of a.used.now) a.ids.now a.w _ c.held-n.ensures) c.requires
 
-pub overflow_add-first : goal.overflow_add-first
-overflow_add-first c = omega (arith, held_in c.args.w (length c.args.ids.now / 2) c.loop-k.k (omega arith))
+pub overflow_add-w : goal.overflow_add-w
+overflow_add-w c = omega (arith, held_in c.args.w (length c.args.ids.now / 2) c.loop-k.k (omega arith))
 
 pub put_used_at-to-requires : goal.put_used_at-to-requires
 put_used_at-to-requires c = record { i_in_bounds = held_in c.args.w (length c.args.ids.now / 2) c.loop-k.k (omega arith); i_in_bounds_2 = listed_room c.loop-k.invariant c.loop-k-test.true }

@@ -5,7 +5,4 @@ use Rattle.prune.proofs.Used.{used_in}
 use Rattle.prune.proofs.put_used.Given as goal
 
 abbrev pub invariant-loop-k : goal.invariant-loop-k
-invariant-loop-k l = Listed (used_in (ids_of l.used) l.ids l.first) l.n l.initial.to l.to l.initial.out_ids l.out_ids l.k
-
-abbrev pub decreases-loop-k : goal.decreases-loop-k
-decreases-loop-k l = l.n - l.k
+invariant-loop-k l = Listed (used_in (ids_of l.used) l.ids l.w.first) l.n l.initial.to l.to l.initial.out_ids l.out_ids l.k

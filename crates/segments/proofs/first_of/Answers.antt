@@ -1,5 +1,5 @@
 use borrow.Author.Rules.{rules}
-use borrow.Author.Tests.{not-true, not-false}
+use borrow.Author.Tests.{not-false}
 use Rattle.lawful.proofs.Loops.{rows}
 use Rattle.segments.proofs.Fronts.{leads}
 use Rattle.segments.proofs.Answers.{first_none}
@@ -15,10 +15,7 @@ pub is_before-requires : goal.is_before-requires
 is_before-requires c = search (rows, rules)
 
 pub returns-then-not-is_before : goal.returns-then-not-is_before
-returns-then-not-is_before c = search (leads, not-true, rules)
-
-pub overflow_add-k : goal.overflow_add-k
-overflow_add-k c = search (rows, rules)
+returns-then-not-is_before c = search (leads, rules)
 
 pub loop-k-preserved : goal.loop-k-preserved
 loop-k-preserved c = search (leads, not-false, rules)

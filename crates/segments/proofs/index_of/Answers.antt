@@ -1,5 +1,5 @@
 use borrow.Author.Rules.{rules}
-use borrow.Author.Tests.{not-true, not-false}
+use borrow.Author.Tests.{not-false}
 use Rattle.lawful.proofs.Loops.{rows}
 use Rattle.segments.proofs.Fronts.{leads}
 use Rattle.segments.proofs.Answers.{index_none}
@@ -15,10 +15,7 @@ pub is_other-requires : goal.is_other-requires
 is_other-requires c = search (rows, rules)
 
 pub returns-then-not-is_other : goal.returns-then-not-is_other
-returns-then-not-is_other c = search (leads, not-true, rules)
-
-pub overflow_add-k : goal.overflow_add-k
-overflow_add-k c = search (rows, rules)
+returns-then-not-is_other c = search (leads, rules)
 
 pub loop-k-preserved : goal.loop-k-preserved
 loop-k-preserved c = search (leads, not-false, rules)

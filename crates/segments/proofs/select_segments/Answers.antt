@@ -11,5 +11,5 @@ returns-then-is_empty c = search (selects, rules)
 pub returns-else-is_empty : goal.returns-else-is_empty
 returns-else-is_empty c = search (selects, rules)
 
-pub returns-in-Breaks : goal.returns-in-Breaks
-returns-in-Breaks c = search (selects, rules)
+pub returns-in-Err : goal.returns-in-Err
+returns-in-Err c = search (selects, rules)

@@ -4,6 +4,3 @@ use Rattle.unite_judge.proofs.greatest_seq.Given as goal
 
 abbrev pub invariant-loop-i : goal.invariant-loop-i
 invariant-loop-i l = Greatest l.t l.n l.x l.i
-
-abbrev pub decreases-loop-i : goal.decreases-loop-i
-decreases-loop-i l = l.n - l.i

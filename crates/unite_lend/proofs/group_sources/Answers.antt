@@ -10,9 +10,6 @@ loop-i-init c = let a = c.args in let l : Lent = record { segments = a.segments.
 pub group_at-g-requires : goal.group_at-g-requires
 group_at-g-requires c = let w = c.loop-i.invariant in let h = c.loop-i-test.true in record { i_in_bounds = omega (arith, c.requires.n_in_bounds, h); i_value = gathered_sound _ _ _ _ _ _ _ _ _ _ _ _ _ _ w h; n_in_bounds = c.requires.n_in_bounds_2; views_in_bounds = gathered_own _ _ _ _ _ _ _ _ _ _ _ _ _ _ w h; groups_value = w.ended; borrows_in_bounds = gathered_groups _ _ _ _ _ _ _ _ _ _ _ _ _ _ w h; views_in_bounds_2 = gathered_work _ _ _ _ _ _ _ _ _ _ _ _ _ _ w h }
 
-pub overflow_add-i : goal.overflow_add-i
-overflow_add-i c = let w = c.loop-i.invariant in let h = c.loop-i-test.true in omega (arith, h, w.few)
-
 pub loop-i-smaller : goal.loop-i-smaller
 loop-i-smaller c = let w = c.loop-i.invariant in let h = c.loop-i-test.true in omega (arith, h)
 

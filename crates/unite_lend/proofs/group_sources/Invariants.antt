@@ -6,6 +6,3 @@ use Rattle.unite_lend.proofs.group_sources.Given as goal
 
 abbrev pub invariant-loop-i : goal.invariant-loop-i
 invariant-loop-i l = Gathered l.lim (record { segments = l.segments; views = l.views; runs = l.runs; borrows = l.borrows; ids = l.ids; pool = l.pool }) l.sources l.order (supplies_in l.supplies l.pool l.n) l.n (length l.initial.owned) (length l.initial.groups) (length l.initial.work) l.owned l.groups l.work l.g l.i
-
-abbrev pub decreases-loop-i : goal.decreases-loop-i
-decreases-loop-i l = l.n - l.i

@@ -4,6 +4,3 @@ use Rattle.unite_lend.proofs.put_supplies.Given as goal
 
 abbrev pub invariant-loop-i : goal.invariant-loop-i
 invariant-loop-i l = Put l.sources l.order l.n l.initial.supplies l.supplies l.i
-
-abbrev pub decreases-loop-i : goal.decreases-loop-i
-decreases-loop-i l = l.n - l.i

@@ -5,6 +5,3 @@ use Rattle.unite_lend.proofs.used_lack_final.Given as goal
 
 abbrev pub invariant-loop-i : goal.invariant-loop-i
 invariant-loop-i l = Clear (lacks_at l.borrows l.sources l.order) l.n l.i
-
-abbrev pub decreases-loop-i : goal.decreases-loop-i
-decreases-loop-i l = l.n - l.i

@@ -5,6 +5,3 @@ use Rattle.unite_lend.proofs.used_segmented.Given as goal
 
 abbrev pub invariant-loop-i : goal.invariant-loop-i
 invariant-loop-i l = Clear (segmented_at l.segments l.sources l.order) l.n l.i
-
-abbrev pub decreases-loop-i : goal.decreases-loop-i
-decreases-loop-i l = l.n - l.i

@@ -1,4 +1,4 @@
-use Prim.Native.Nat.{ℕ, ◌-◌}
+use Prim.Native.Nat.{ℕ}
 use mathlib.Core.Path.{◌≡◌}
 use mathlib.Core.Bool.{not}
 use lib.ListN.{length}
@@ -12,6 +12,3 @@ use Rattle.unite_named.proofs.first_overlap.Given as goal
 abbrev pub invariant-loop-k : goal.invariant-loop-k
 invariant-loop-k l = Led (overlap_at (tree_tables l.segments l.views l.runs l.pool) l.sources (begins l.order l.n) (places_in l.prefixes l.pool l.np)) (λ (i : ℕ). not (some_overlap (shares_in (tree_tables l.segments l.views l.runs l.pool) l.sources (begins l.order l.n) (prefix_in l.prefixes l.pool i)))) l.np l.k
     × (length l.shares ≡ length l.initial.shares)
-
-abbrev pub decreases-loop-k : goal.decreases-loop-k
-decreases-loop-k l = l.np - l.k

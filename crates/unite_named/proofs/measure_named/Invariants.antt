@@ -1,4 +1,3 @@
-use Prim.Native.Nat.{◌-◌}
 use mathlib.Core.Path.{◌≡◌}
 use lib.ListN.{length}
 use Rattle.records.specs.Fill.{sum, segment_fill}
@@ -8,6 +7,3 @@ use Rattle.unite_named.proofs.measure_named.Given as goal
 
 abbrev pub invariant-loop-k : goal.invariant-loop-k
 invariant-loop-k l = Summed l.most (sum segment_fill) (piece_in l.segments l.views l.runs l.pool l.sources l.order l.n l.prefixes) l.np l.initial.d l.d l.k × (length l.shares ≡ length l.initial.shares)
-
-abbrev pub decreases-loop-k : goal.decreases-loop-k
-decreases-loop-k l = l.np - l.k

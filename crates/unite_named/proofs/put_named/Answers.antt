@@ -26,10 +26,6 @@ pub put_one_at-to-requires : goal.put_one_at-to-requires
 unfolding segments_laid segments_runs_laid segments_views_laid
 put_one_at-to-requires c = let a = c.args in let i = c.loop-k.invariant in let h = c.loop-k-test.true in let e = left_now a.left (piece_in a.segments.now a.views.now a.runs.now a.pool.now a.sources.now a.order.now a.n a.prefixes.now) a.np a.c _ _ c.loop-k.invariant.0 in record { n_in_bounds = c.requires.n_in_bounds; n_in_bounds_2 = omega (arith, c.requires.n_in_bounds_2, i.5); i_in_bounds = omega (arith, c.requires.np_in_bounds, h); i_bound = left_enough a.left (piece_in a.segments.now a.views.now a.runs.now a.pool.now a.sources.now a.order.now a.n a.prefixes.now) a.np a.c _ _ c.loop-k.invariant.0 (segments_at (tree_tables a.segments.now a.views.now a.runs.now a.pool.now) a.sources.now (begins a.order.now a.n) (places_in a.prefixes.now a.pool.now a.np)) (pieces_all a.segments.now a.views.now a.runs.now a.pool.now a.sources.now a.order.now a.n a.prefixes.now a.np) c.requires.np_bound h; i_in_bounds_2 = rw e (grown_room i.0 i.1 h); i_in_bounds_3 = rw e (grown_room i.0 i.2 h); i_in_bounds_4 = rw e (grown_room i.0 i.3 h); i_in_bounds_5 = rw e (grown_room i.0 i.4 h) }
 
-pub overflow_add-k : goal.overflow_add-k
-unfolding segments_laid segments_runs_laid segments_views_laid
-overflow_add-k c = omega (arith, c.loop-k-test.true, c.ranges.np)
-
 pub loop-k-preserved : goal.loop-k-preserved
 unfolding segments_laid segments_runs_laid segments_views_laid
 loop-k-preserved c = let a = c.args in let e = left_now a.left (piece_in a.segments.now a.views.now a.runs.now a.pool.now a.sources.now a.order.now a.n a.prefixes.now) a.np a.c _ _ c.loop-k.invariant.0 in let i = c.loop-k.invariant in let h = c.loop-k-test.true in (walk_more i.0 h (rw e at c.put_one_at-to.ensures.value), grown_more i.0 i.1 h (rw e at c.put_one_at-to.ensures.out_segments_after), grown_more i.0 i.2 h (rw e at c.put_one_at-to.ensures.out_runs_after), grown_more i.0 i.3 h (rw e at c.put_one_at-to.ensures.out_views_after), grown_more i.0 i.4 h (rw e at c.put_one_at-to.ensures.out_pool_after), c.put_one_at-to.ensures.shares_len_unchanged ∙ i.5)

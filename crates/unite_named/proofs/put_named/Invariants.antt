@@ -1,4 +1,3 @@
-use Prim.Native.Nat.{◌-◌}
 use mathlib.Core.Path.{◌≡◌}
 use lib.ListN.{length}
 use Rattle.records.specs.Fill.{sum, segment_fill}
@@ -14,6 +13,3 @@ invariant-loop-k l = Walk (sum segment_fill) (numbered_piece l.left (piece_in l.
     × Grown piece_views (numbered_piece l.left (piece_in l.segments l.views l.runs l.pool l.sources l.order l.n l.prefixes)) l.np l.initial.to l.initial.out_views l.out_views l.k
     × Grown piece_pool (numbered_piece l.left (piece_in l.segments l.views l.runs l.pool l.sources l.order l.n l.prefixes)) l.np l.initial.to l.initial.out_pool l.out_pool l.k
     × (length l.shares ≡ length l.initial.shares)
-
-abbrev pub decreases-loop-k : goal.decreases-loop-k
-decreases-loop-k l = l.np - l.k

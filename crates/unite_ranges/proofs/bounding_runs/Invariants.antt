@@ -1,4 +1,4 @@
-use Prim.Native.Nat.{◌+◌, ◌-◌}
+use Prim.Native.Nat.{◌+◌}
 use Rattle.records.specs.Row.{run_at}
 use Rattle.records.specs.Decode.{run_in}
 use Rattle.measure.specs.Within.{run_views}
@@ -8,6 +8,3 @@ use Rattle.unite_ranges.proofs.bounding_runs.Given as goal
 
 abbrev pub invariant-loop-k : goal.invariant-loop-k
 invariant-loop-k l = Wide run_views (λ i. run_in l.views l.pool (run_at l.runs (l.first + i))) l.n (bounded_in l.pool l.initial.q) (bounded_in l.pool l.q) l.k
-
-abbrev pub decreases-loop-k : goal.decreases-loop-k
-decreases-loop-k l = l.n - l.k

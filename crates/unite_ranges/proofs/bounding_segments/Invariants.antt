@@ -1,4 +1,4 @@
-use Prim.Native.Nat.{◌+◌, ◌-◌}
+use Prim.Native.Nat.{◌+◌}
 use Rattle.records.specs.Row.{segment_at}
 use Rattle.records.specs.Decode.{segment_in}
 use Rattle.unite_ranges.specs.Rows.{bounded_in}
@@ -7,6 +7,3 @@ use Rattle.unite_ranges.proofs.bounding_segments.Given as goal
 
 abbrev pub invariant-loop-k : goal.invariant-loop-k
 invariant-loop-k l = Wide segment_views (λ i. segment_in l.runs l.views l.pool (segment_at l.segments (l.first + i))) l.n (bounded_in l.pool l.initial.q) (bounded_in l.pool l.q) l.k
-
-abbrev pub decreases-loop-k : goal.decreases-loop-k
-decreases-loop-k l = l.n - l.k

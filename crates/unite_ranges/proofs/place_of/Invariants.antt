@@ -1,4 +1,3 @@
-use Prim.Native.Nat.{◌-◌}
 use Rattle.keys.specs.Pool.{edge_of}
 use Rattle.unite_ranges.specs.Rows.{ranged_at}
 use Rattle.unite_ranges.proofs.Placed.{Before}
@@ -6,6 +5,3 @@ use Rattle.unite_ranges.proofs.place_of.Given as goal
 
 abbrev pub invariant-loop-k : goal.invariant-loop-k
 invariant-loop-k l = Before (edge_of l.pool l.s) (ranged_at l.pool l.rows) l.n l.k
-
-abbrev pub decreases-loop-k : goal.decreases-loop-k
-decreases-loop-k l = l.n - l.k

@@ -7,6 +7,3 @@ use Rattle.unite_sources.proofs.arrange_sources.Given as goal
 
 abbrev pub invariant-loop-i : goal.invariant-loop-i
 invariant-loop-i l = Arranging (views_at_word l.segments l.runs l.views l.pool l.sources) (λ j. j * 22) l.n (length l.initial.order) (ranged_in l.pool l.order l.k) (length l.order) l.k l.i
-
-abbrev pub decreases-loop-i : goal.decreases-loop-i
-decreases-loop-i l = l.n - l.i

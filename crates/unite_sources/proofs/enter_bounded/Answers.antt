@@ -5,5 +5,5 @@ use Rattle.unite_sources.proofs.enter_bounded.Goals as goal
 pub returns-in-None : goal.returns-in-None
 returns-in-None c = search (enters, rules)
 
-pub returns-in-Spans : goal.returns-in-Spans
-returns-in-Spans c = search (enters, rules)
+pub returns-in-Some : goal.returns-in-Some
+returns-in-Some c = search (enters, rules)

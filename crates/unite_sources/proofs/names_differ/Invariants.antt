@@ -6,6 +6,3 @@ use Rattle.unite_sources.proofs.names_differ.Given as goal
 
 abbrev pub invariant-loop-i : goal.invariant-loop-i
 invariant-loop-i l = Agreeing (name_in l.pool l.first) (λ k. name_at_word l.pool l.sources (k * 22)) l.n l.i
-
-abbrev pub decreases-loop-i : goal.decreases-loop-i
-decreases-loop-i l = l.n - l.i

@@ -15,9 +15,6 @@ borrow_at-b-requires c = search (rows, rules)
 pub returns-then-is_missing : goal.returns-then-is_missing
 returns-then-is_missing c = search (lacking, rules)
 
-pub overflow_add-k : goal.overflow_add-k
-overflow_add-k c = search (rows, rules)
-
 pub loop-k-preserved : goal.loop-k-preserved
 loop-k-preserved c = lacks_more _ _ _ _ c.loop-k.invariant c.loop-k-test.true _ _ c.borrow_at-b.ensures c.is_missing.ensures c.if-is_missing.false
 

@@ -9,6 +9,3 @@ use Rattle.borrows.proofs.clone_lenders.lacks_final.Given as goal
 
 abbrev pub invariant-loop-k : goal.invariant-loop-k
 invariant-loop-k l = Passed (not (refuses15 (borrows_in l.borrows [] [] l.w))) (final_there l.borrows l.w) l.n l.k
-
-abbrev pub decreases-loop-k : goal.decreases-loop-k
-decreases-loop-k l = l.n - l.k

@@ -12,6 +12,3 @@ invariant-loop-k l = Walk borrow_fill (λ i. renewed (borrow_in l.ids l.pool (bo
     × Grown borrow_rows (λ i. renewed (borrow_in l.ids l.pool (borrow_at l.borrows (l.first + i))) (fresh_at (uuids_of l.fresh) i)) l.n l.initial.to l.initial.out_borrows l.out_borrows l.k
     × Grown borrow_id_rows (λ i. renewed (borrow_in l.ids l.pool (borrow_at l.borrows (l.first + i))) (fresh_at (uuids_of l.fresh) i)) l.n l.initial.to l.initial.out_ids l.out_ids l.k
     × Grown borrow_pool (λ i. renewed (borrow_in l.ids l.pool (borrow_at l.borrows (l.first + i))) (fresh_at (uuids_of l.fresh) i)) l.n l.initial.to l.initial.out_pool l.out_pool l.k
-
-abbrev pub decreases-loop-k : goal.decreases-loop-k
-decreases-loop-k l = l.n - l.k

@@ -4,8 +4,8 @@ use Rattle.segments.proofs.Fronts.{leads}
 use Rattle.borrows.proofs.Naming.{namings, list_more}
 use Rattle.borrows.proofs.ids_owned.first_naming.Goals as goal
 
-pub lists-init : goal.lists-init
-lists-init c = search (namings, rules)
+pub loop-k-init : goal.loop-k-init
+loop-k-init c = search (namings, rules)
 
 pub overflow_add-w : goal.overflow_add-w
 overflow_add-w c = search (rows, rules)
@@ -22,20 +22,14 @@ overflow_add-list c = search (rows, rules)
 pub id_at-requires : goal.id_at-requires
 id_at-requires c = search (rows, rules)
 
-pub overflow_add-j : goal.overflow_add-j
-overflow_add-j c = search (rows, rules)
-
 pub loop-j-preserved : goal.loop-j-preserved
-loop-j-preserved c = list_more _ _ _ _ _ c.loop-j.invariant c.loop-j-test.true _ _ c.id_at.ensures c.same_sst.ensures c.if-same_sst.false
+loop-j-preserved c = list_more _ _ _ _ _ c.loop-j.invariant c.loop-j-test.true _ _ c.id_at.ensures c.same.ensures c.if-same.false
 
-pub overflow_add-k : goal.overflow_add-k
-overflow_add-k c = search (rows, rules)
+pub loop-k-preserved : goal.loop-k-preserved
+loop-k-preserved c = search (namings, rules)
 
-pub lists-preserved : goal.lists-preserved
-lists-preserved c = search (namings, rules)
+pub returns : goal.returns
+returns c = search (leads, rules)
 
-pub returns-after-lists : goal.returns-after-lists
-returns-after-lists c = search (leads, rules)
-
-pub returns-then-same_sst : goal.returns-then-same_sst
-returns-then-same_sst c = search (namings, rules)
+pub returns-then-same : goal.returns-then-same
+returns-then-same c = search (namings, rules)

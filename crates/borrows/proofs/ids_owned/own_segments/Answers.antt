@@ -13,9 +13,6 @@ overflow_add-first c = search (rows, rules)
 pub own_segment-to-requires : goal.own_segment-to-requires
 own_segment-to-requires c = record { i_in_bounds = search (rows, rules); i_bound = took_small c.loop-k.invariant c.loop-k-test.true }
 
-pub overflow_add-k : goal.overflow_add-k
-overflow_add-k c = search (rows, rules)
-
 pub loop-k-preserved : goal.loop-k-preserved
 loop-k-preserved c = took_more c.loop-k.invariant c.loop-k-test.true c.own_segment-to.ensures.value c.own_segment-to.ensures.out_after
 

@@ -9,6 +9,3 @@ use Rattle.borrows.proofs.ids_owned.own_segments.Given as goal
 
 abbrev pub invariant-loop-k : goal.invariant-loop-k
 invariant-loop-k l = Took (λ s. owned_by (borrows_in l.borrows l.ids [] l.b) (tree_views s.tree)) (λ i. segment_in l.runs l.views [] (segment_at l.segments (l.first + i))) l.n l.initial.out l.initial.to l.out l.to l.k
-
-abbrev pub decreases-loop-k : goal.decreases-loop-k
-decreases-loop-k l = l.n - l.k

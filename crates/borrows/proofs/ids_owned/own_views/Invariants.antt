@@ -8,6 +8,3 @@ use Rattle.borrows.proofs.ids_owned.own_views.Given as goal
 
 abbrev pub invariant-loop-k : goal.invariant-loop-k
 invariant-loop-k l = Took (λ v. owned_by (borrows_in l.borrows l.ids [] l.b) (v ∷ [])) (λ i. view_in [] (view_at l.views (l.first + i))) l.n l.initial.out l.initial.to l.out l.to l.k
-
-abbrev pub decreases-loop-k : goal.decreases-loop-k
-decreases-loop-k l = l.n - l.k

@@ -1,4 +1,4 @@
 use Rattle.emit.proofs.borrows_put.put_borrow_row.Goals as goal
 
 pub returns : goal.returns
-returns c = rw (← c.borrow_words-row.ensures) c.put_words.ensures
+returns c = rw (← c.borrow_words-row.ensures) c.put.ensures.out_after

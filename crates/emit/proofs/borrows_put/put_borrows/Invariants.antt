@@ -1,4 +1,4 @@
-use Prim.Native.Nat.{◌+◌, ◌-◌}
+use Prim.Native.Nat.{◌+◌}
 use Rattle.records.specs.Row.{borrow_at}
 use Rattle.records.specs.Decode.{borrow_in}
 use Rattle.records.specs.Fill.{borrow_fill}
@@ -11,6 +11,3 @@ invariant-loop-k l = Walk borrow_fill (λ i. borrow_in l.ids l.pool (borrow_at l
     × Grown borrow_rows (λ i. borrow_in l.ids l.pool (borrow_at l.borrows (l.first + i))) l.n l.initial.to l.initial.out_borrows l.out_borrows l.k
     × Grown borrow_id_rows (λ i. borrow_in l.ids l.pool (borrow_at l.borrows (l.first + i))) l.n l.initial.to l.initial.out_ids l.out_ids l.k
     × Grown borrow_pool (λ i. borrow_in l.ids l.pool (borrow_at l.borrows (l.first + i))) l.n l.initial.to l.initial.out_pool l.out_pool l.k
-
-abbrev pub decreases-loop-k : goal.decreases-loop-k
-decreases-loop-k l = l.n - l.k

@@ -1,4 +1,4 @@
-use Prim.Native.Nat.{◌+◌, ◌-◌}
+use Prim.Native.Nat.{◌+◌}
 use Rattle.records.specs.Row.{run_at}
 use Rattle.records.specs.Decode.{run_in}
 use Rattle.records.specs.Fill.{run_fill}
@@ -11,6 +11,3 @@ invariant-loop-k l = Walk run_fill (λ i. run_in l.views l.pool (run_at l.runs (
     × Grown run_rows (λ i. run_in l.views l.pool (run_at l.runs (l.first + i))) l.n l.initial.to l.initial.out_runs l.out_runs l.k
     × Grown run_views (λ i. run_in l.views l.pool (run_at l.runs (l.first + i))) l.n l.initial.to l.initial.out_views l.out_views l.k
     × Grown run_pool (λ i. run_in l.views l.pool (run_at l.runs (l.first + i))) l.n l.initial.to l.initial.out_pool l.out_pool l.k
-
-abbrev pub decreases-loop-k : goal.decreases-loop-k
-decreases-loop-k l = l.n - l.k

@@ -1,4 +1,4 @@
-use Prim.Native.Nat.{◌+◌, ◌-◌}
+use Prim.Native.Nat.{◌+◌}
 use Rattle.records.specs.Row.{segment_at}
 use Rattle.records.specs.Decode.{segment_in}
 use Rattle.records.specs.Fill.{segment_fill}
@@ -12,6 +12,3 @@ invariant-loop-k l = Walk segment_fill (λ i. segment_in l.runs l.views l.pool (
     × Grown segment_runs (λ i. segment_in l.runs l.views l.pool (segment_at l.segments (l.first + i))) l.n l.initial.to l.initial.out_runs l.out_runs l.k
     × Grown segment_views (λ i. segment_in l.runs l.views l.pool (segment_at l.segments (l.first + i))) l.n l.initial.to l.initial.out_views l.out_views l.k
     × Grown segment_pool (λ i. segment_in l.runs l.views l.pool (segment_at l.segments (l.first + i))) l.n l.initial.to l.initial.out_pool l.out_pool l.k
-
-abbrev pub decreases-loop-k : goal.decreases-loop-k
-decreases-loop-k l = l.n - l.k

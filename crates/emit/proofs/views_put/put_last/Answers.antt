@@ -14,11 +14,11 @@ put_part-past-requires c = search (laid_keys, rules)
 pub overflow_sub-result : goal.overflow_sub-result
 overflow_sub-result c = search (laid_keys, rules)
 
-pub returns-in-Unknown : goal.returns-in-Unknown
-returns-in-Unknown c = search (laid_keys, rules, c.in-Unknown.is)
+pub returns-in-None : goal.returns-in-None
+returns-in-None c = search (laid_keys, rules, c.in-None.is)
 
 pub shape_of-out_pool : goal.shape_of-out_pool
 shape_of-out_pool c = search (laid_keys, rules)
 
-pub returns-in-Known : goal.returns-in-Known
-returns-in-Known c = let a = c.args in let whole = last_known a.pool.now a.out_pool.now a.at _ _ _ _ c.in-Known.is c.put_part-past.ensures.value c.put_part-past.ensures.out_pool_after in record { value = whole.0; out_pool_after = whole.1 }
+pub returns-in-Some : goal.returns-in-Some
+returns-in-Some c = let a = c.args in let whole = last_known a.pool.now a.out_pool.now a.at _ _ _ _ c.in-Some.is c.put_part-past.ensures.value c.put_part-past.ensures.out_pool_after in record { value = whole.0; out_pool_after = whole.1 }

@@ -1,7 +1,7 @@
 use Rattle.emit.proofs.views_put.put_part.Goals as goal
 
-pub put_bytes-requires : goal.put_bytes-requires
-put_bytes-requires c = rw c.part.ensures c.requires
+pub put-requires : goal.put-requires
+put-requires c = rw c.part.ensures c.requires
 
 pub returns : goal.returns
-returns c = rw (← c.part.ensures) (record { value = c.put_bytes.ensures.0; out_pool_after = c.put_bytes.ensures.1 })
+returns c = rw (← c.part.ensures) (record { value = c.put.ensures.value; out_pool_after = c.put.ensures.out_after })

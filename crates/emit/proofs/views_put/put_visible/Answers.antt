@@ -14,11 +14,11 @@ put_bound-start-requires c = search (laid_keys, rules)
 pub put_bound-end-requires : goal.put_bound-end-requires
 put_bound-end-requires c = search (laid_keys, rules)
 
-pub returns-in-All : goal.returns-in-All
-returns-in-All c = search (laid_keys, rules, c.in-All.is)
+pub returns-in-None : goal.returns-in-None
+returns-in-None c = search (laid_keys, rules, c.in-None.is)
 
 pub shape_of-out_pool : goal.shape_of-out_pool
 shape_of-out_pool c = search (laid_keys, rules)
 
-pub returns-in-Only : goal.returns-in-Only
-returns-in-Only c = let a = c.args in let whole = visible_only a.pool.now a.out_pool.now a.at _ _ c.in-Only.is c.requires _ _ _ _ c.put_bound-start.ensures.value c.put_bound-start.ensures.out_pool_after c.put_bound-end.ensures.value c.put_bound-end.ensures.out_pool_after in record { value = whole.0; out_pool_after = whole.1 }
+pub returns-in-Some : goal.returns-in-Some
+returns-in-Some c = let a = c.args in let whole = visible_only a.pool.now a.out_pool.now a.at _ _ c.in-Some.is c.requires _ _ _ _ c.put_bound-start.ensures.value c.put_bound-start.ensures.out_pool_after c.put_bound-end.ensures.value c.put_bound-end.ensures.out_pool_after in record { value = whole.0; out_pool_after = whole.1 }

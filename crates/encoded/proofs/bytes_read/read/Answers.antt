@@ -9,10 +9,10 @@ pub returns-then-s-gt-LONGEST : goal.returns-then-s-gt-LONGEST
 returns-then-s-gt-LONGEST c = read_long _ _ _ _ _ (lt-ltb _ _ c.if-s-gt-LONGEST.true)
 
 pub rows_of-rows-requires : goal.rows_of-rows-requires
-rows_of-rows-requires c = sym c.has_tables.ensures ∙ c.if-has_tables.true
-
-pub returns-then-has_tables : goal.returns-then-has_tables
-returns-then-has_tables c = c.write_rows.ensures ∙ ap (on (refused_with _) (given_of _ _ _)) c.rows_of-rows.ensures ∙ read_bytes _ _ _ _ _ (le-ltb _ _ c.if-s-gt-LONGEST.false) (sym c.has_tables.ensures ∙ c.if-has_tables.true)
+rows_of-rows-requires c = sym c.has_tables.ensures ∙ c.if-not-has_tables.false
 
 pub returns : goal.returns
-returns c = read_short _ _ _ _ _ (le-ltb _ _ c.if-s-gt-LONGEST.false) (sym c.has_tables.ensures ∙ c.if-has_tables.false)
+returns c = c.write_rows.ensures ∙ ap (on (refused_with _) (given_of _ _ _)) c.rows_of-rows.ensures ∙ read_bytes _ _ _ _ _ (le-ltb _ _ c.if-s-gt-LONGEST.false) (sym c.has_tables.ensures ∙ c.if-not-has_tables.false)
+
+pub returns-then-not-has_tables : goal.returns-then-not-has_tables
+returns-then-not-has_tables c = read_short _ _ _ _ _ (le-ltb _ _ c.if-s-gt-LONGEST.false) (sym c.has_tables.ensures ∙ c.if-not-has_tables.true)

@@ -4,8 +4,8 @@ use Rattle.encoded_borrows.proofs.clone_bytes.lacks_room.Goals as goal
 pub clone_fill-requires : goal.clone_fill-requires
 clone_fill-requires c = c.requires
 
-pub returns-in-Fills : goal.returns-in-Fills
-returns-in-Fills c = lacks_some _ _ _ _ _ c.clone_fill.ensures _ c.in-Fills.is _ c.fits_in.ensures
+pub returns-in-Some : goal.returns-in-Some
+returns-in-Some c = lacks_some _ _ _ _ _ c.clone_fill.ensures _ c.in-Some.is _ c.fits_in.ensures
 
-pub returns-in-Broken : goal.returns-in-Broken
-returns-in-Broken c = lacks_all _ _ _ _ _ c.clone_fill.ensures c.in-Broken.is
+pub returns-in-None : goal.returns-in-None
+returns-in-None c = lacks_all _ _ _ _ _ c.clone_fill.ensures c.in-None.is

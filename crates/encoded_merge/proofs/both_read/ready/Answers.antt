@@ -7,11 +7,11 @@ returns-then-writer-gt-LONGEST c = ready_writer _ _ _ _ _ c.if-writer-gt-LONGEST
 pub returns-then-compactor-gt-LONGEST : goal.returns-then-compactor-gt-LONGEST
 returns-then-compactor-gt-LONGEST c = ready_compactor _ _ _ _ _ c.if-writer-gt-LONGEST.false c.if-compactor-gt-LONGEST.true
 
-pub returns-then-most-pool : goal.returns-then-most-pool
-returns-then-most-pool c = ready_both _ _ _ _ _ _ _ _ _ _ c.if-writer-gt-LONGEST.false c.if-compactor-gt-LONGEST.false _ c.fits_in.ensures c.if-fits_in.true c.if-most-pool.true
+pub returns : goal.returns
+returns c = ready_both _ _ _ _ _ _ _ _ _ _ c.if-writer-gt-LONGEST.false c.if-compactor-gt-LONGEST.false _ c.fits_in.ensures c.if-not-fits_in.false c.if-pool-lim.false
 
-pub returns-else-most-pool : goal.returns-else-most-pool
-returns-else-most-pool c = ready_pool _ _ _ _ _ _ _ _ _ _ c.if-writer-gt-LONGEST.false c.if-compactor-gt-LONGEST.false _ c.fits_in.ensures c.if-fits_in.true c.if-most-pool.false
+pub returns-then-pool-lim : goal.returns-then-pool-lim
+returns-then-pool-lim c = ready_pool _ _ _ _ _ _ _ _ _ _ c.if-writer-gt-LONGEST.false c.if-compactor-gt-LONGEST.false _ c.fits_in.ensures c.if-not-fits_in.false c.if-pool-lim.true
 
-pub returns-else-fits_in : goal.returns-else-fits_in
-returns-else-fits_in c = ready_short _ _ _ _ _ _ _ _ _ _ c.if-writer-gt-LONGEST.false c.if-compactor-gt-LONGEST.false _ c.fits_in.ensures c.if-fits_in.false
+pub returns-then-not-fits_in : goal.returns-then-not-fits_in
+returns-then-not-fits_in c = ready_short _ _ _ _ _ _ _ _ _ _ c.if-writer-gt-LONGEST.false c.if-compactor-gt-LONGEST.false _ c.fits_in.ensures c.if-not-fits_in.true

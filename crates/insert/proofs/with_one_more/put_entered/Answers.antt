@@ -1,3 +1,4 @@
+use Rattle.std.specs.Prelude.{Ok}
 use mathlib.Core.Path.{ap}
 use mathlib.Core.List.{[], ◌++◌}
 use native.Mathlib.Omega.{arith}
@@ -27,4 +28,4 @@ put_rest-name-requires c = let a = c.args in let x : Lent = record { segments = 
 
 pub returns : goal.returns
 unfolding manifest_in manifest_fill layout
-returns c = let a = c.args in let x : Lent = record { segments = a.segments.now; views = a.views.now; runs = a.runs.now; borrows = a.borrows.now; ids = a.ids.now; pool = a.pool.now } in let m = manifest_in x a.m in let ss = put a.i (new_segment a.prefix.now) m.segments in let e = c.put_trees_with-laid.ensures.value in outcome_same (ap (λ q. Entered a.i q) (row_with x a.m ss _ _ _ _ e c.put_rest-name.ensures.value c.held.ensures c.manifest_row.ensures)) c.put_trees_with-laid.ensures.out_segments_after c.put_trees_with-laid.ensures.out_views_after c.put_trees_with-laid.ensures.out_runs_after (whole_borrows m.tree ss _ e _ _ [] (sum key_fill (name_keys m.extractor)) m.borrows c.put_rest-name.ensures.out_borrows_after) (whole_ids m.tree ss _ e _ _ [] (joined borrow_ids m.borrows) c.put_rest-name.ensures.out_ids_after) (whole_bytes m.tree ss _ e _ _ _ (run (name_keys m.extractor) ++ joined borrow_path m.borrows) c.put_trees_with-laid.ensures.out_pool_after c.put_rest-name.ensures.out_pool_after)
+returns c = let a = c.args in let x : Lent = record { segments = a.segments.now; views = a.views.now; runs = a.runs.now; borrows = a.borrows.now; ids = a.ids.now; pool = a.pool.now } in let m = manifest_in x a.m in let ss = put a.i (new_segment a.prefix.now) m.segments in let e = c.put_trees_with-laid.ensures.value in outcome_same (ap (λ q. Ok (Entered a.i q)) (row_with x a.m ss _ _ _ _ e c.put_rest-name.ensures.value c.held.ensures c.manifest_row.ensures)) c.put_trees_with-laid.ensures.out_segments_after c.put_trees_with-laid.ensures.out_views_after c.put_trees_with-laid.ensures.out_runs_after (whole_borrows m.tree ss _ e _ _ [] (sum key_fill (name_keys m.extractor)) m.borrows c.put_rest-name.ensures.out_borrows_after) (whole_ids m.tree ss _ e _ _ [] (joined borrow_ids m.borrows) c.put_rest-name.ensures.out_ids_after) (whole_bytes m.tree ss _ e _ _ _ (run (name_keys m.extractor) ++ joined borrow_path m.borrows) c.put_trees_with-laid.ensures.out_pool_after c.put_rest-name.ensures.out_pool_after)

@@ -1,27 +1,21 @@
-use borrow.Author.Rules.{rules}
-use Rattle.lawful.specs.Law.{run_lawful}
+use Prim.Native.Nat.{ℕ, ◌+◌}
+use mathlib.Core.Path.{refl, sym, ap, ◌∙◌}
+use native.Mathlib.Omega.{arith}
+use Rattle.std.proofs.Common.{rules, tests}
+use Rattle.std.proofs.lemmas.Iterator.{serves_from_Range, YieldsList-from_range}
+use Rattle.std.proofs.lemmas.Iterator.Search.{all_from_yields_List}
+use Rattle.measure.specs.Tests.{all_below}
 use Rattle.lawful.proofs.Rules.{runs_all}
-use borrow.Author.Tests.{not-true, not-false}
-use Rattle.lawful.proofs.Loops.{passed_none, loops, rows}
+use Rattle.lawful.specs.Law.{run_lawful}
+use Rattle.records.specs.Decode.{run_in}
+use Rattle.records.specs.Row.{run_at}
+use Rattle.lawful.proofs.Loops.{row_in, row_fits, range_below}
 use Rattle.lawful.proofs.run_laws.runs_follow.Goals as goal
 
-pub loop-k-init : goal.loop-k-init
-loop-k-init c = passed_none _ _ _ _ c.held-n.ensures (runs_all _ _ _ _ run_lawful)
-
-pub overflow_add-w : goal.overflow_add-w
-overflow_add-w c = search (rows, rules)
-
-pub run_follows-requires : goal.run_follows-requires
-run_follows-requires c = search (rows, rules)
-
-pub returns-then-not-run_follows : goal.returns-then-not-run_follows
-returns-then-not-run_follows c = search (loops, not-true, rules)
-
-pub overflow_add-k : goal.overflow_add-k
-overflow_add-k c = search (rows, rules)
-
-pub loop-k-preserved : goal.loop-k-preserved
-loop-k-preserved c = search (loops, not-false, rules)
+pub all-requires-clause-callable : goal.all-requires-clause-callable
+all-requires-clause-callable c = serves_from_Range (λ x q k. search (rules, tests)) (λ x low high. search (row_in c.args.w _ 3 _ x c.held-n.ensures high, row_fits c.args.w _ 3 _ x c.held-n.ensures high, rules))
 
 pub returns : goal.returns
-returns c = search (loops, rules)
+returns c =
+    let p = λ (k : ℕ). run_lawful (run_in c.args.views.now c.args.pool.now (run_at c.args.runs.now (c.args.w.first + k))) in
+    all_from_yields_List p _ _ _ c.all.ensures.ran (YieldsList-from_range 0 _ c.held-n.result refl (omega arith)) (λ x b q k. search (rules, tests)) ∙ range_below p _ ∙ ap (all_below p) c.held-n.ensures ∙ sym (runs_all _ _ _ _ run_lawful)

@@ -1,33 +1,21 @@
-use borrow.Author.Rules.{rules}
-use Rattle.lawful.specs.Law.{follows}
+use Prim.Native.Nat.{ℕ, ◌+◌}
+use mathlib.Core.Path.{refl, sym, ap, ◌∙◌}
+use native.Mathlib.Omega.{arith}
+use Rattle.std.proofs.Common.{rules, tests}
+use Rattle.std.proofs.lemmas.Iterator.{serves_from_Range, YieldsList-from_range}
+use Rattle.std.proofs.lemmas.Iterator.Search.{all_from_yields_List}
+use Rattle.measure.specs.Tests.{all_below}
 use Rattle.lawful.proofs.Rules.{views_chain}
-use borrow.Author.Tests.{not-true, not-false}
-use Rattle.lawful.proofs.Loops.{passed_none, loops, gaps, gaps_are}
+use Rattle.lawful.specs.Law.{follows}
+use Rattle.records.specs.Decode.{view_in}
+use Rattle.records.specs.Row.{view_at}
+use Rattle.lawful.proofs.Loops.{gap_in, next_in, gap_fits, next_fits, gaps_are, range_below}
 use Rattle.lawful.proofs.run_laws.views_follow.Goals as goal
 
-pub loop-k-init : goal.loop-k-init
-loop-k-init c = passed_none _ _ _ _ (gaps_are _ _ _ _ _ 0 c.held.ensures c.gaps-n.ensures) (views_chain _ _ _ follows)
-
-pub overflow_add-w : goal.overflow_add-w
-overflow_add-w c = search (gaps, rules)
-
-pub overflow_add-k : goal.overflow_add-k
-overflow_add-k c = search (gaps, rules)
-
-pub overflow_add-w-in-loop-k : goal.overflow_add-w-in-loop-k
-overflow_add-w-in-loop-k c = search (gaps, rules)
-
-pub view_follows-requires : goal.view_follows-requires
-view_follows-requires c = search (gaps, rules)
-
-pub returns-then-not-view_follows : goal.returns-then-not-view_follows
-returns-then-not-view_follows c = search (loops, not-true, rules)
-
-pub overflow_add-k-in-loop-k : goal.overflow_add-k-in-loop-k
-overflow_add-k-in-loop-k c = search (gaps, rules)
-
-pub loop-k-preserved : goal.loop-k-preserved
-loop-k-preserved c = search (loops, not-false, rules)
+pub all-requires-clause-callable : goal.all-requires-clause-callable
+all-requires-clause-callable c = serves_from_Range (λ x q k. search (rules, tests)) (λ x low high. search (gap_in c.args.w _ 16 _ _ x c.held.ensures c.gaps-n.ensures high, next_in c.args.w _ 16 _ _ x c.held.ensures c.gaps-n.ensures high, gap_fits c.args.w _ 16 _ _ x c.held.ensures c.gaps-n.ensures high, next_fits c.args.w _ 16 _ _ x c.held.ensures c.gaps-n.ensures high, rules))
 
 pub returns : goal.returns
-returns c = search (loops, rules)
+returns c =
+    let p = λ (k : ℕ). follows (view_in c.args.pool.now (view_at c.args.views.now (c.args.w.first + k))) (view_in c.args.pool.now (view_at c.args.views.now (c.args.w.first + (k + 1)))) in
+    all_from_yields_List p _ _ _ c.all.ensures.ran (YieldsList-from_range 0 _ c.gaps-n.result refl (omega arith)) (λ x b q k. search (rules, tests)) ∙ range_below p _ ∙ ap (all_below p) (gaps_are _ _ _ _ _ 0 c.held.ensures c.gaps-n.ensures) ∙ sym (views_chain _ _ _ follows)

@@ -2,8 +2,8 @@ use borrow.Author.Rules.{rules}
 use Rattle.lawful.proofs.Arms.{lasts}
 use Rattle.lawful.proofs.view_laws.is_ordered.Goals as goal
 
-pub returns-in-Unknown : goal.returns-in-Unknown
-returns-in-Unknown c = search (lasts, rules)
+pub returns-in-None : goal.returns-in-None
+returns-in-None c = search (lasts, rules)
 
-pub returns-in-Known : goal.returns-in-Known
-returns-in-Known c = search (lasts, rules)
+pub returns-in-Some : goal.returns-in-Some
+returns-in-Some c = search (lasts, rules)

@@ -1,37 +1,25 @@
-use borrow.Author.Rules.{rules}
-use Rattle.records.specs.Decode.{segment_in}
+use Prim.Native.Nat.{ℕ, ◌+◌}
+use mathlib.Core.Path.{refl, sym, ap, ◌∙◌}
+use native.Mathlib.Omega.{arith}
+use Rattle.std.proofs.Common.{rules, tests}
+use Rattle.std.proofs.lemmas.Iterator.{serves_from_Range, YieldsList-from_range}
+use Rattle.std.proofs.lemmas.Iterator.Search.{all_from_yields_List}
+use Rattle.measure.specs.Tests.{all_below}
+use Rattle.lawful.proofs.Rules.{segments_all}
+use Rattle.lawful.specs.Law.{view_lawful}
 use Rattle.measure.specs.Tests.{all_of}
 use Rattle.measure.specs.Within.{tree_views}
-use Rattle.lawful.specs.Law.{view_lawful}
-use Rattle.lawful.proofs.Rules.{segments_all}
-use borrow.Author.Tests.{not-true, not-false}
-use Rattle.lawful.proofs.Loops.{passed_none, loops, rows}
+use Rattle.records.specs.Decode.{segment_in}
+use Rattle.records.specs.Decode.{tree_in}
+use Rattle.records.specs.Row.{segment_at}
+use Rattle.lawful.proofs.Loops.{row_in, row_fits, range_below}
 use Rattle.lawful.proofs.view_laws.segments_hold.Goals as goal
 
-pub loop-k-init : goal.loop-k-init
-unfolding segment_in
-loop-k-init c = passed_none _ _ _ _ c.held-n.ensures (segments_all _ _ _ _ _ (λ s. all_of view_lawful (tree_views s.tree)))
-
-pub overflow_add-w : goal.overflow_add-w
-unfolding segment_in
-overflow_add-w c = search (rows, rules)
-
-pub segment_holds-requires : goal.segment_holds-requires
-unfolding segment_in
-segment_holds-requires c = search (rows, rules)
-
-pub returns-then-not-segment_holds : goal.returns-then-not-segment_holds
-unfolding segment_in
-returns-then-not-segment_holds c = search (loops, not-true, rules)
-
-pub overflow_add-k : goal.overflow_add-k
-unfolding segment_in
-overflow_add-k c = search (rows, rules)
-
-pub loop-k-preserved : goal.loop-k-preserved
-unfolding segment_in
-loop-k-preserved c = search (loops, not-false, rules)
+pub all-requires-clause-callable : goal.all-requires-clause-callable
+all-requires-clause-callable c = serves_from_Range (λ x q k. search (rules, tests)) (λ x low high. search (row_in c.args.w _ 12 _ x c.held-n.ensures high, row_fits c.args.w _ 12 _ x c.held-n.ensures high, rules))
 
 pub returns : goal.returns
 unfolding segment_in
-returns c = search (loops, rules)
+returns c =
+    let p = λ (k : ℕ). all_of view_lawful (tree_views (tree_in c.args.runs.now c.args.views.now c.args.pool.now (segment_at c.args.segments.now (c.args.w.first + k)).tree)) in
+    all_from_yields_List p _ _ _ c.all.ensures.ran (YieldsList-from_range 0 _ c.held-n.result refl (omega arith)) (λ x b q k. search (rules, tests)) ∙ range_below p _ ∙ ap (all_below p) c.held-n.ensures ∙ sym (segments_all _ _ _ _ _ (λ s. all_of view_lawful (tree_views s.tree)))

@@ -8,5 +8,5 @@ unfolding borrow_bytes borrow_in
 returns c = group _ _ _ _ _ _ _ c.add_array-p0.ensures
     (more _ _ _ _ _ _ _ _ c.add_bin-p1.ensures
     (more _ _ _ _ _ _ _ _ c.add_id-p2.ensures
-    (more _ _ _ _ _ _ _ _ c.add_final-p3.ensures
+    (more _ _ _ _ _ _ _ _ c.add_mark-p3.ensures
     (last _ _ _ _ _ c.add_ids.ensures))))

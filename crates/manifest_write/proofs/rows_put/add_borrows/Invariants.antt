@@ -1,4 +1,4 @@
-use Prim.Native.Nat.{◌+◌, ◌-◌}
+use Prim.Native.Nat.{◌+◌}
 use Rattle.records.specs.Row.{borrow_at}
 use Rattle.records.specs.Decode.{borrow_in}
 use Rattle.manifest_write.specs.Bytes.{borrow_bytes}
@@ -7,6 +7,3 @@ use Rattle.manifest_write.proofs.rows_put.add_borrows.Given as goal
 
 abbrev pub invariant-loop-k : goal.invariant-loop-k
 invariant-loop-k l = Listed borrow_bytes (λ j. borrow_in l.ids l.pool (borrow_at l.borrows (l.w.first + j))) l.initial.out l.initial.p l.n l.k l.p l.out
-
-abbrev pub decreases-loop-k : goal.decreases-loop-k
-decreases-loop-k l = l.n - l.k

@@ -1,4 +1,4 @@
-use Prim.Native.Nat.{◌+◌, ◌-◌}
+use Prim.Native.Nat.{◌+◌}
 use Rattle.records.specs.Row.{run_at}
 use Rattle.records.specs.Decode.{run_in}
 use Rattle.manifest_write.specs.Bytes.{run_bytes}
@@ -7,6 +7,3 @@ use Rattle.manifest_write.proofs.rows_put.add_runs.Given as goal
 
 abbrev pub invariant-loop-k : goal.invariant-loop-k
 invariant-loop-k l = Listed run_bytes (λ j. run_in l.views l.pool (run_at l.runs (l.w.first + j))) l.initial.out l.initial.p l.n l.k l.p l.out
-
-abbrev pub decreases-loop-k : goal.decreases-loop-k
-decreases-loop-k l = l.n - l.k

@@ -1,4 +1,4 @@
-use Prim.Native.Nat.{◌+◌, ◌-◌}
+use Prim.Native.Nat.{◌+◌}
 use Rattle.records.specs.Row.{segment_at}
 use Rattle.records.specs.Decode.{segment_in}
 use Rattle.manifest_write.specs.Bytes.{segment_bytes}
@@ -7,6 +7,3 @@ use Rattle.manifest_write.proofs.rows_put.add_segments.Given as goal
 
 abbrev pub invariant-loop-k : goal.invariant-loop-k
 invariant-loop-k l = Listed segment_bytes (λ j. segment_in l.runs l.views l.pool (segment_at l.segments (l.w.first + j))) l.initial.out l.initial.p l.n l.k l.p l.out
-
-abbrev pub decreases-loop-k : goal.decreases-loop-k
-decreases-loop-k l = l.n - l.k

@@ -9,5 +9,5 @@ returns c = group _ _ _ _ _ _ _ c.add_array-p0.ensures
     (more _ _ _ _ _ _ _ _ c.add_id-p1.ensures
     (more _ _ _ _ _ _ _ _ c.add_id-p2.ensures
     (more _ _ _ _ _ _ _ _ c.add_bin-p3.ensures
-    (more _ _ _ _ _ _ _ _ c.add_last-p4.ensures
+    (more _ _ _ _ _ _ _ _ c.add_optional_bin-p4.ensures.0
     (last _ _ _ _ _ c.add_visible.ensures)))))

@@ -1,7 +1,7 @@
 use borrow.Author.Rules.{rules}
 use native.Mathlib.Omega.{arith}
 use Rattle.records.specs.Decode.{views_in}
-use Rattle.manifest_write.proofs.Lists.{lists, row_in}
+use Rattle.manifest_write.proofs.Lists.{lists, listed_more, row_in}
 use Rattle.manifest_write.proofs.rows_put.add_views.Goals as goal
 
 pub loop-k-init : goal.loop-k-init
@@ -12,13 +12,13 @@ pub overflow_add-w : goal.overflow_add-w
 unfolding views_in
 overflow_add-w c = omega (arith, row_in _ _ _ _ c.held-n.ensures c.loop-k-test.true)
 
-pub add_view_at-p-requires : goal.add_view_at-p-requires
+pub view_at-requires : goal.view_at-requires
 unfolding views_in
-add_view_at-p-requires c = search (lists, rules)
+view_at-requires c = search (lists, rules)
 
 pub loop-k-preserved : goal.loop-k-preserved
 unfolding views_in
-loop-k-preserved c = search (lists, rules)
+loop-k-preserved c = listed_more _ _ _ _ _ _ _ _ _ _ c.loop-k.invariant c.loop-k-test.true (rw c.view_at.ensures at c.add_view-p.ensures)
 
 pub returns : goal.returns
 unfolding views_in

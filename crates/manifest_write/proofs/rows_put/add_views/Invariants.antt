@@ -1,4 +1,4 @@
-use Prim.Native.Nat.{◌+◌, ◌-◌}
+use Prim.Native.Nat.{◌+◌}
 use Rattle.records.specs.Row.{view_at}
 use Rattle.records.specs.Decode.{view_in}
 use Rattle.manifest_write.specs.Bytes.{view_bytes}
@@ -7,6 +7,3 @@ use Rattle.manifest_write.proofs.rows_put.add_views.Given as goal
 
 abbrev pub invariant-loop-k : goal.invariant-loop-k
 invariant-loop-k l = Listed view_bytes (λ j. view_in l.pool (view_at l.views (l.w.first + j))) l.initial.out l.initial.p l.n l.k l.p l.out
-
-abbrev pub decreases-loop-k : goal.decreases-loop-k
-decreases-loop-k l = l.n - l.k

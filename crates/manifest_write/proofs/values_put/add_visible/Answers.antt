@@ -1,7 +1,7 @@
 use Rattle.manifest_write.proofs.values_put.add_visible.Goals as goal
 
-pub returns-in-All : goal.returns-in-All
-returns-in-All c = rw c.in-All.is c.add_nil.ensures
+pub returns-in-None : goal.returns-in-None
+returns-in-None c = rw c.in-None.is c.add_head.ensures
 
-pub returns-in-Only : goal.returns-in-Only
-returns-in-Only c = rw c.in-Only.is c.add_range.ensures
+pub returns-in-Some : goal.returns-in-Some
+returns-in-Some c = rw c.in-Some.is c.add_range.ensures

@@ -1,4 +1,4 @@
-use Prim.Native.Nat.{◌+◌, ◌-◌, ◌/◌}
+use Prim.Native.Nat.{◌+◌, ◌/◌}
 use lib.ListN.{length}
 use Rattle.measure.specs.Walk.{borrow_walk}
 use Rattle.measure.proofs.Walks.{Walked}
@@ -6,6 +6,3 @@ use Rattle.measure.proofs.borrows_walked.borrows_walk.Given as goal
 
 abbrev pub invariant-loop-k : goal.invariant-loop-k
 invariant-loop-k l = Walked (λ i. borrow_walk l.lim l.ids l.borrows l.n (l.w.first + i)) l.w (length l.borrows / 9) l.initial.d l.d l.k
-
-abbrev pub decreases-loop-k : goal.decreases-loop-k
-decreases-loop-k l = l.w.count - l.k

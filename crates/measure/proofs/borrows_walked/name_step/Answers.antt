@@ -2,8 +2,8 @@ use borrow.Author.Rules.{rules}
 use Rattle.measure.proofs.Walks.{names}
 use Rattle.measure.proofs.borrows_walked.name_step.Goals as goal
 
-pub returns-in-Absent : goal.returns-in-Absent
-returns-in-Absent c = search (names, rules)
+pub returns-in-None : goal.returns-in-None
+returns-in-None c = search (names, rules)
 
-pub returns-in-Named : goal.returns-in-Named
-returns-in-Named c = search (names, rules)
+pub returns-in-Some : goal.returns-in-Some
+returns-in-Some c = search (names, rules)

@@ -1,24 +1,10 @@
-use borrow.Author.Rules.{rules}
+use Rattle.measure.proofs.Walks.{then_on, walked_none, walked_broken}
 use Rattle.measure.specs.Walk.{views_walk}
-use Rattle.measure.proofs.Walks.{then_broken, then_on, walked_none, walked_more, walked_broken, walked_all}
 use Rattle.measure.proofs.views_walked.views_walk.Goals as goal
 
-pub returns-in_default : goal.returns-in_default
-unfolding views_walk
-returns-in_default c = search (then_broken, rules)
-
 pub loop-k-init : goal.loop-k-init
-unfolding views_walk
-loop-k-init c = search (walked_none, rules)
+loop-k-init c = walked_none _ _ _ _ _ _ _ _ c.window_step.ensures c.in_ok-d.was
 
-pub returns-in_default-u : goal.returns-in_default-u
+pub returns-in_err-d-2 : goal.returns-in_err-d-2
 unfolding views_walk
-returns-in_default-u c = search (then_on, walked_broken, rules)
-
-pub loop-k-preserved : goal.loop-k-preserved
-unfolding views_walk
-loop-k-preserved c = walked_more _ _ _ _ _ _ c.loop-k.invariant _ _ c.view_step-u.ensures c.in-Fills-u.is c.loop-k-test.true
-
-pub returns : goal.returns
-unfolding views_walk
-returns c = search (then_on, walked_all, rules)
+returns-in_err-d-2 c = then_on _ _ _ c.window_step.ensures _ _ c.in_ok-d.was (walked_broken _ _ _ _ _ _ c.loop-k.invariant _ _ c.view_step.ensures c.from_residual-in_err-d-2.ensures c.in_err-d-2.was c.loop-k-test.true)

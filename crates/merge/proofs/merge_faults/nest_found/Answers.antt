@@ -7,6 +7,3 @@ returns-in-Clear c = search (founds, rules)
 
 pub returns-in-Last : goal.returns-in-Last
 returns-in-Last c = search (founds, rules)
-
-pub returns-in-At : goal.returns-in-At
-returns-in-At c = search (founds, rules)

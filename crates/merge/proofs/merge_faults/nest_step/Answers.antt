@@ -1,20 +1,17 @@
-use Rattle.merge.proofs.Nesting.{nest_none, nest_clear, nest_at, nest_here, nest_on, count_fits}
+use Rattle.merge.proofs.Nesting.{nest_none, nest_clear, nest_here, nest_on, count_fits}
 use Rattle.merge.proofs.merge_faults.nest_step.Goals as goal
 
 pub returns-then-begins : goal.returns-then-begins
-returns-then-begins c = nest_here _ _ _ _ c.in-Kept.is _ _ _ _ _ c.in-Last.is c.part.ensures c.part-in-Last.ensures c.begins.ensures c.if-begins.true
+returns-then-begins c = nest_here _ _ _ _ c.in-Some.is _ _ _ _ _ c.in-Last.is c.part.ensures c.part-in-Last.ensures c.begins.ensures c.if-begins.true
 
 pub overflow_add-result : goal.overflow_add-result
 overflow_add-result c = record { fits = count_fits _ _ _ c.requires c.in-Last.is }
 
-pub returns-in-Nothing : goal.returns-in-Nothing
-returns-in-Nothing c = nest_none _ _ _ c.in-Nothing.is
+pub returns-in-None : goal.returns-in-None
+returns-in-None c = nest_none _ _ _ c.in-None.is
 
 pub returns-in-Clear : goal.returns-in-Clear
-returns-in-Clear c = nest_clear _ _ _ _ c.in-Kept.is c.in-Clear.is
+returns-in-Clear c = nest_clear _ _ _ _ c.in-Some.is c.in-Clear.is
 
 pub returns-else-begins : goal.returns-else-begins
-returns-else-begins c = nest_on _ _ _ _ c.in-Kept.is _ _ _ _ _ c.in-Last.is c.part.ensures c.part-in-Last.ensures c.begins.ensures c.if-begins.false
-
-pub returns-in-At : goal.returns-in-At
-returns-in-At c = nest_at _ _ _ _ c.in-Kept.is _ c.in-At.is
+returns-else-begins c = nest_on _ _ _ _ c.in-Some.is _ _ _ _ _ c.in-Last.is c.part.ensures c.part-in-Last.ensures c.begins.ensures c.if-begins.false

@@ -7,14 +7,14 @@ find_only-requires c = c.requires
 pub find_nest-requires : goal.find_nest-requires
 find_nest-requires c = c.requires
 
-pub returns-in-At : goal.returns-in-At
-returns-in-At c = only_at _ _ _ _ c.in-Writer.is c.find_only.ensures _ c.in-At.is
+pub returns-in_ok-k-in-Writer : goal.returns-in_ok-k-in-Writer
+returns-in_ok-k-in-Writer c = only_at _ _ _ _ c.in-Writer.is c.find_only.ensures _ c.in_ok-k-in-Writer.was
 
-pub returns-in-Nowhere : goal.returns-in-Nowhere
-returns-in-Nowhere c = only_nowhere _ _ _ _ c.in-Writer.is c.find_only.ensures c.in-Nowhere.is
+pub returns-in_err-k-in-Writer : goal.returns-in_err-k-in-Writer
+returns-in_err-k-in-Writer c = rw c.from_residual.ensures (only_nowhere _ _ _ _ c.in-Writer.is c.find_only.ensures c.in_err-k-in-Writer.was)
 
-pub returns-in-At-find_nest : goal.returns-in-At-find_nest
-returns-in-At-find_nest c = nest_at _ _ _ _ c.in-Compactor.is c.find_nest.ensures _ c.in-At-find_nest.is
+pub returns-in_ok-k-in-Compactor : goal.returns-in_ok-k-in-Compactor
+returns-in_ok-k-in-Compactor c = nest_at _ _ _ _ c.in-Compactor.is c.find_nest.ensures _ c.in_ok-k-in-Compactor.was
 
-pub returns-in-Nowhere-find_nest : goal.returns-in-Nowhere-find_nest
-returns-in-Nowhere-find_nest c = nest_nowhere _ _ _ _ c.in-Compactor.is c.find_nest.ensures c.in-Nowhere-find_nest.is
+pub returns-in_err-k-in-Compactor : goal.returns-in_err-k-in-Compactor
+returns-in_err-k-in-Compactor c = rw c.from_residual-in_err-k-in-Compactor.ensures (nest_nowhere _ _ _ _ c.in-Compactor.is c.find_nest.ensures c.in_err-k-in-Compactor.was)

@@ -15,14 +15,14 @@ overflow_add-i c = sum_fits _ _ _ _ _ _ _ _ _ _ c.loop-i.invariant.between (omeg
 pub next_kept-s-requires : goal.next_kept-s-requires
 next_kept-s-requires c = cursors_fit _ _ _ _ _ _ _ _ _ _ c.loop-i.invariant.between (omega (arith, c.well_formed.1.1.0))
 
-pub returns-in_default : goal.returns-in_default
-returns-in_default c = measuring_broken _ _ _ _ _ _ _ _ _ _ _ _ _ _ c.loop-i.invariant _ c.next_kept-s.ensures c.loop-i-test.true _ c.fill_kept-u.ensures c.in_default.is
+pub returns-in_err-to : goal.returns-in_err-to
+returns-in_err-to c = rw c.from_residual.ensures (measuring_broken _ _ _ _ _ _ _ _ _ _ _ _ _ _ c.loop-i.invariant _ c.next_kept-s.ensures c.loop-i-test.true _ c.fill_kept.ensures c.in_err-to.was)
 
 pub loop-i-smaller : goal.loop-i-smaller
 loop-i-smaller c = measuring_less _ _ _ _ _ _ _ _ _ _ _ _ _ _ c.loop-i.invariant _ c.next_kept-s.ensures c.loop-i-test.true
 
 pub loop-i-preserved : goal.loop-i-preserved
-loop-i-preserved c = measuring_more _ _ _ _ _ _ _ _ _ _ _ _ _ _ c.loop-i.invariant _ c.next_kept-s.ensures c.loop-i-test.true _ c.fill_kept-u.ensures _ c.in-Fills.is
+loop-i-preserved c = measuring_more _ _ _ _ _ _ _ _ _ _ _ _ _ _ c.loop-i.invariant _ c.next_kept-s.ensures c.loop-i-test.true _ c.fill_kept.ensures _ c.in_ok-to.was
 
 pub returns : goal.returns
 returns c = measuring_all _ _ _ _ _ _ _ _ _ _ _ _ _ _ c.loop-i.invariant c.loop-i-test.false

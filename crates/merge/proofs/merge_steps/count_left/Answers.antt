@@ -17,9 +17,6 @@ is_left-requires c = search (rows, rules)
 pub returns-then-not-is_left : goal.returns-then-not-is_left
 returns-then-not-is_left c = search (leads, not-true, rules)
 
-pub overflow_add-k : goal.overflow_add-k
-overflow_add-k c = search (rows, rules)
-
 pub loop-k-preserved : goal.loop-k-preserved
 loop-k-preserved c = search (leads, not-false, rules)
 

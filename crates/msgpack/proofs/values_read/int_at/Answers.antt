@@ -1,16 +1,16 @@
+use Rattle.std.specs.Prelude.{Ok}
 use mathlib.Core.Path.{refl, sym, ap, ◌∙◌}
 use mathlib.Core.List.{[], ◌∷◌}
 use borrow.Author.Tests.{lt-ltb, le-ltb}
 use Rattle.msgpack.specs.Read.{int_at, int_by}
 use lib.IntN.{ℤ}
 use Rattle.msgpack.proofs.Signs.{held}
-use Rattle.msgpack.specs.declared.Int.TheVariants as int
 use Rattle.msgpack.proofs.Others.{elsewhere_among}
 use Rattle.msgpack.proofs.values_read.int_at.Goals as goal
 
 pub returns-then-x-lt-HALF : goal.returns-then-x-lt-HALF
 unfolding int_at int_by
-returns-then-x-lt-HALF c = rw (sym c.head_at.ensures ∙ c.in-Uint.is, lt-ltb _ _ c.if-x-lt-HALF.true) (ap (λ (z : ℤ). int.Is z c.in-Uint.p) (held c.plus.ensures (record { sfits = c.if-x-lt-HALF.true })))
+returns-then-x-lt-HALF c = rw (sym c.head_at.ensures ∙ c.in-Uint.is, lt-ltb _ _ c.if-x-lt-HALF.true) (ap (λ (z : ℤ). Ok (z, c.in-Uint.p)) (held c.plus.ensures (record { sfits = c.if-x-lt-HALF.true })))
 
 pub returns-else-x-lt-HALF : goal.returns-else-x-lt-HALF
 unfolding int_at int_by
@@ -18,7 +18,7 @@ returns-else-x-lt-HALF c = rw (sym c.head_at.ensures ∙ c.in-Uint.is, le-ltb _ 
 
 pub returns-then-m-lt-HALF : goal.returns-then-m-lt-HALF
 unfolding int_at int_by
-returns-then-m-lt-HALF c = rw (sym c.head_at.ensures ∙ c.in-Minus.is, lt-ltb _ _ c.if-m-lt-HALF.true) (ap (λ (z : ℤ). int.Is z c.in-Minus.p) (held c.minus.ensures (record { sfits = c.if-m-lt-HALF.true })))
+returns-then-m-lt-HALF c = rw (sym c.head_at.ensures ∙ c.in-Minus.is, lt-ltb _ _ c.if-m-lt-HALF.true) (ap (λ (z : ℤ). Ok (z, c.in-Minus.p)) (held c.minus.ensures (record { sfits = c.if-m-lt-HALF.true })))
 
 pub returns-else-m-lt-HALF : goal.returns-else-m-lt-HALF
 unfolding int_at int_by

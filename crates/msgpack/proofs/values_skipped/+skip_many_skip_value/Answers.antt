@@ -1,26 +1,24 @@
-use Rattle.std.proofs.Common.{refl, sym, ◌∙◌, arith}
+use Rattle.std.proofs.Common.{refl, sym, ◌≡◌, ◌∙◌, ◌+◌, ◌-◌, arith}
+use Rattle.std.proofs.lemmas.Result.{err_from_is_err_and}
 use Rattle.msgpack.specs.Skip.{skip_head}
-use Rattle.msgpack.proofs.Ahead.{past_within}
 use Rattle.msgpack.proofs.Skips.{many_end, many_past, many_bad, value_shut, value_open, value_map, value_flat}
 use Rattle.msgpack.proofs.values_skipped.+skip_many_skip_value.Goals as goal
 
-pub skip_many-returns-in-Bad : goal.skip_many-returns-in-Bad
+pub skip_many-returns-in_err-p : goal.skip_many-returns-in_err-p
 unfolding skip_head
-skip_many-returns-in-Bad t c = let l = c.loop-left in
-    sym (sym l.invariant ∙ many_bad _ l.left l.p _ (omega arith) (sym c.skip_value.ensures ∙ c.in-Bad.is))
+skip_many-returns-in_err-p t c = let l = c.loop in
+    let q = err_from_is_err_and c.from_residual.result c.from_residual.ensures.1 in
+    rw (q.1, q.2) (sym (sym l.invariant ∙ many_bad _ (c.args.n - l.counter) l.p _ (omega (arith, c.loop-test.true)) (sym c.skip_value.ensures ∙ c.in_err-p.was)))
 
-pub skip_many-loop-left-smaller : goal.skip_many-loop-left-smaller
+pub skip_many-loop-preserved : goal.skip_many-loop-preserved
 unfolding skip_head
-skip_many-loop-left-smaller t c = omega (arith, past_within _ _ _ _ (sym c.skip_value.ensures ∙ c.in-Past.is))
-
-pub skip_many-loop-left-preserved : goal.skip_many-loop-left-preserved
-unfolding skip_head
-skip_many-loop-left-preserved t c = let l = c.loop-left in
-    sym (many_past _ l.left l.p _ (omega arith) (sym c.skip_value.ensures ∙ c.in-Past.is)) ∙ l.invariant
+skip_many-loop-preserved t c = let l = c.loop in
+    let e : c.args.n - (l.counter + 1) ≡ c.args.n - l.counter - 1 = omega arith in
+    rw e (sym (many_past _ (c.args.n - l.counter) l.p _ (omega (arith, c.loop-test.true)) (sym c.skip_value.ensures ∙ c.in_ok-p.was)) ∙ l.invariant)
 
 pub skip_many-returns : goal.skip_many-returns
 unfolding skip_head
-skip_many-returns t c = let l = c.loop-left in sym (many_end _ l.left l.p (omega arith)) ∙ l.invariant
+skip_many-returns t c = let l = c.loop in sym (many_end _ (c.args.n - l.counter) l.p (omega (arith, c.loop-test.false))) ∙ l.invariant
 
 pub skip_value-returns-in-Nil : goal.skip_value-returns-in-Nil
 unfolding skip_head
@@ -67,11 +65,13 @@ pub skip_value-returns-then-room-eq0-2 : goal.skip_value-returns-then-room-eq0-2
 unfolding skip_head
 skip_value-returns-then-room-eq0-2 t c = sym (value_shut _ _ _ _ _ c.head_at.ensures c.in-Map.is c.if-room-eq0-2.true)
 
-pub skip_value-returns-in-Past : goal.skip_value-returns-in-Past
+pub skip_value-returns-in_ok-p-in-Map : goal.skip_value-returns-in_ok-p-in-Map
 unfolding skip_head
-skip_value-returns-in-Past t c = c.skip_many-in-Past.ensures
-    ∙ sym (value_map _ _ _ _ _ _ _ _ c.head_at.ensures c.in-Map.is c.if-room-eq0-2.false c.skip_many-else-room-eq0-2.ensures c.in-Past.is)
+skip_value-returns-in_ok-p-in-Map t c = c.skip_many-else-room-eq0-2-2.ensures
+    ∙ sym (value_map _ _ _ _ _ _ _ _ c.head_at.ensures c.in-Map.is c.if-room-eq0-2.false c.skip_many-else-room-eq0-2.ensures c.in_ok-p-in-Map.was)
 
-pub skip_value-returns-in-Bad : goal.skip_value-returns-in-Bad
+pub skip_value-returns-in_err-p-in-Map : goal.skip_value-returns-in_err-p-in-Map
 unfolding skip_head
-skip_value-returns-in-Bad t c = sym (value_map _ _ _ _ _ _ _ _ c.head_at.ensures c.in-Map.is c.if-room-eq0-2.false c.skip_many-else-room-eq0-2.ensures c.in-Bad.is)
+skip_value-returns-in_err-p-in-Map t c =
+    let q = err_from_is_err_and c.from_residual.result c.from_residual.ensures.1 in
+    rw (q.1, q.2) (sym (value_map _ _ _ _ _ _ _ _ c.head_at.ensures c.in-Map.is c.if-room-eq0-2.false c.skip_many-else-room-eq0-2.ensures c.in_err-p-in-Map.was))

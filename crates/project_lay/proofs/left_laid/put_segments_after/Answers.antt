@@ -1,5 +1,3 @@
-use native.Mathlib.Numerals.{add-one}
-use mir.Facts.{Fits-le}
 use Prim.Native.Nat.{◌/◌}
 use native.Mathlib.Omega.{arith}
 use lib.ListN.{length}
@@ -15,21 +13,13 @@ pub loop-k-init : goal.loop-k-init
 unfolding segments_laid segments_runs_laid segments_views_laid
 loop-k-init c = let a = c.args in let f = (left_fill a.segments.now a.runs.now a.views.now a.pool.now a.w (config_in a.pool.now a.config a.own.now) _ c.held-n.ensures) in (walk_none, grown_none (rw f c.requires.w_in_bounds), grown_none (rw f c.requires.w_in_bounds_2), grown_none (rw f c.requires.w_in_bounds_3), grown_none (rw f c.requires.w_in_bounds_4))
 
-pub overflow_add-first : goal.overflow_add-first
+pub overflow_add-w : goal.overflow_add-w
 unfolding segments_laid segments_runs_laid segments_views_laid
-overflow_add-first c = omega (arith, held_in c.args.w (length c.args.segments.now / 12) c.loop-k.k (omega arith))
-
-pub overflow_add-k : goal.overflow_add-k
-unfolding segments_laid segments_runs_laid segments_views_laid
-overflow_add-k c = omega arith
+overflow_add-w c = omega (arith, held_in c.args.w (length c.args.segments.now / 12) c.loop-k.k (omega arith))
 
 pub put_segment_at-to-requires : goal.put_segment_at-to-requires
 unfolding segments_laid segments_runs_laid segments_views_laid
 put_segment_at-to-requires c = let i = c.loop-k.invariant in let h = c.loop-k-test.true in record { i_in_bounds = held_in c.args.w (length c.args.segments.now / 12) c.loop-k.k (omega arith); i_in_bounds_2 = grown_room i.0 i.1 h; i_in_bounds_3 = grown_room i.0 i.2 h; i_in_bounds_4 = grown_room i.0 i.3 h; i_in_bounds_5 = grown_room i.0 i.4 h }
-
-pub overflow_add-k-in-loop-k : goal.overflow_add-k-in-loop-k
-unfolding segments_laid segments_runs_laid segments_views_laid
-overflow_add-k-in-loop-k c = rw (add-one c.loop-k.k) (Fits-le c.loop-k-test.true (record { fits = c.held-n.type_inv }))
 
 pub loop-k-preserved : goal.loop-k-preserved
 unfolding segments_laid segments_runs_laid segments_views_laid

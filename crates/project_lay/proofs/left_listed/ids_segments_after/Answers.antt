@@ -1,6 +1,5 @@
 use native.Mathlib.Numerals.{add-one}
 use lib.Arith.{sub_dec}
-use mir.Facts.{Fits-le}
 use Prim.Native.Nat.{◌/◌}
 use native.Mathlib.Omega.{arith}
 use lib.ListN.{length}
@@ -13,17 +12,11 @@ use Rattle.project_lay.proofs.left_listed.ids_segments_after.Goals as goal
 pub loop-k-init : goal.loop-k-init
 loop-k-init c = let a = c.args in listed_none _ (left_used a.segments.now a.runs.now a.views.now a.pool.now a.w (config_in a.pool.now a.config a.own.now) _ c.held-n.ensures) c.requires
 
-pub overflow_add-first : goal.overflow_add-first
-overflow_add-first c = omega (arith, held_in c.args.w (length c.args.segments.now / 12) c.loop-k.k (omega arith))
-
-pub overflow_add-k : goal.overflow_add-k
-overflow_add-k c = omega arith
+pub overflow_add-w : goal.overflow_add-w
+overflow_add-w c = omega (arith, held_in c.args.w (length c.args.segments.now / 12) c.loop-k.k (omega arith))
 
 pub ids_segment_at-to-requires : goal.ids_segment_at-to-requires
 ids_segment_at-to-requires c = record { i_in_bounds = held_in c.args.w (length c.args.segments.now / 12) c.loop-k.k (omega arith); i_in_bounds_2 = listed_room c.loop-k.invariant c.loop-k-test.true }
-
-pub overflow_add-k-in-loop-k : goal.overflow_add-k-in-loop-k
-overflow_add-k-in-loop-k c = rw (add-one c.loop-k.k) (Fits-le c.loop-k-test.true (record { fits = c.held-n.type_inv }))
 
 pub loop-k-smaller : goal.loop-k-smaller
 loop-k-smaller c = rw (add-one c.loop-k.k) (sub_dec c.held-n.result c.loop-k.k c.loop-k-test.true)

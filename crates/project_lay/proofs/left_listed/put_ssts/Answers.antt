@@ -1,6 +1,5 @@
 use native.Mathlib.Numerals.{add-one}
 use lib.Arith.{sub_dec}
-use mir.Facts.{Fits-le}
 use Prim.Native.Nat.{◌/◌}
 use native.Mathlib.Omega.{arith}
 use lib.ListN.{length}
@@ -12,17 +11,14 @@ use Rattle.project_lay.proofs.left_listed.put_ssts.Goals as goal
 pub loop-k-init : goal.loop-k-init
 loop-k-init c = let a = c.args in listed_none _ (ssts_all a.views.now a.w _ c.held-n.ensures) c.requires
 
-pub overflow_add-first : goal.overflow_add-first
-overflow_add-first c = omega (arith, held_in c.args.w (length c.args.views.now / 16) c.loop-k.k (omega arith))
+pub overflow_add-w : goal.overflow_add-w
+overflow_add-w c = omega (arith, held_in c.args.w (length c.args.views.now / 16) c.loop-k.k (omega arith))
 
 pub view_at-v-requires : goal.view_at-v-requires
 view_at-v-requires c = held_in c.args.w (length c.args.views.now / 16) c.loop-k.k (omega arith)
 
 pub put_id-to-requires : goal.put_id-to-requires
 put_id-to-requires c = listed_room c.loop-k.invariant c.loop-k-test.true
-
-pub overflow_add-k : goal.overflow_add-k
-overflow_add-k c = rw (add-one c.loop-k.k) (Fits-le c.loop-k-test.true (record { fits = c.held-n.type_inv }))
 
 pub loop-k-smaller : goal.loop-k-smaller
 loop-k-smaller c = rw (add-one c.loop-k.k) (sub_dec c.held-n.result c.loop-k.k c.loop-k-test.true)

@@ -11,9 +11,6 @@ row_over-requires c = search (clears, rules)
 pub returns-then-row_over : goal.returns-then-row_over
 returns-then-row_over c = search (clears, rules)
 
-pub overflow_add-k : goal.overflow_add-k
-overflow_add-k c = search (clears, rules)
-
 pub loop-k-preserved : goal.loop-k-preserved
 loop-k-preserved c = search (clears, rules)
 

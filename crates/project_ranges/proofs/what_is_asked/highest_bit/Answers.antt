@@ -2,5 +2,5 @@ use borrow.Author.Rules.{rules}
 use Rattle.project_ranges.proofs.Filters.{masks}
 use Rattle.project_ranges.proofs.what_is_asked.highest_bit.Goals as goal
 
-pub returns-in-Only : goal.returns-in-Only
-returns-in-Only c = search (masks, rules)
+pub returns-in-Some : goal.returns-in-Some
+returns-in-Some c = search (masks, rules)

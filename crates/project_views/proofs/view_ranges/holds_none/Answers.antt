@@ -2,23 +2,11 @@ use borrow.Author.Rules.{rules}
 use Rattle.project_views.proofs.Ends.{nones}
 use Rattle.project_views.proofs.view_ranges.holds_none.Goals as goal
 
-pub enum_told-1 : goal.enum_told-1
-enum_told-1 c = search (nones, rules)
-
-pub enum_known-u : goal.enum_known-u
-enum_known-u c = search (nones, rules)
-
 pub is_empty_between-requires : goal.is_empty_between-requires
 is_empty_between-requires c = search (nones, rules)
 
-pub enum_known-u-in-Excluded-1 : goal.enum_known-u-in-Excluded-1
-enum_known-u-in-Excluded-1 c = search (nones, rules)
-
 pub is_empty_between-requires-in-Excluded : goal.is_empty_between-requires-in-Excluded
 is_empty_between-requires-in-Excluded c = search (nones, rules)
-
-pub enum_known-u-in-Successor-1 : goal.enum_known-u-in-Successor-1
-enum_known-u-in-Successor-1 c = search (nones, rules)
 
 pub part-requires : goal.part-requires
 part-requires c = search (nones, rules)

@@ -1,6 +1,5 @@
 use native.Mathlib.Numerals.{add-one}
 use lib.Arith.{sub_dec}
-use mir.Facts.{Fits-le}
 use Prim.Native.Nat.{◌/◌}
 use native.Mathlib.Omega.{arith}
 use lib.ListN.{length}
@@ -12,14 +11,8 @@ use Rattle.project_views.proofs.views_ids.put_runs_ids.Goals as goal
 pub loop-k-init : goal.loop-k-init
 loop-k-init c = let a = c.args in listed_none _ (runs_ids a.runs.now a.views.now a.pool.now a.w (reach_of a.pool.now a.r) _ c.held-n.ensures) c.requires
 
-pub overflow_add-first : goal.overflow_add-first
-overflow_add-first c = omega (arith, held_in c.args.w (length c.args.runs.now / 3) c.loop-k.k (omega arith))
-
 pub put_run_ids_at-to-requires : goal.put_run_ids_at-to-requires
 put_run_ids_at-to-requires c = record { i_in_bounds = held_in c.args.w (length c.args.runs.now / 3) c.loop-k.k (omega arith); i_in_bounds_2 = listed_room c.loop-k.invariant c.loop-k-test.true }
-
-pub overflow_add-k : goal.overflow_add-k
-overflow_add-k c = rw (add-one c.loop-k.k) (Fits-le c.loop-k-test.true (record { fits = c.held-n.type_inv }))
 
 pub loop-k-smaller : goal.loop-k-smaller
 loop-k-smaller c = rw (add-one c.loop-k.k) (sub_dec c.held-n.result c.loop-k.k c.loop-k-test.true)
@@ -32,3 +25,6 @@ shape_of-out_ids c = c.loop-k.invariant.grown.long
 
 pub returns : goal.returns
 returns c = let a = c.args in let whole = listed_all c.loop-k.invariant _ (runs_ids a.runs.now a.views.now a.pool.now a.w (reach_of a.pool.now a.r) _ c.held-n.ensures) c.loop-k-test.false in record { value = whole.0; out_ids_after = whole.1 }
+
+pub overflow_add-w : goal.overflow_add-w
+overflow_add-w c = omega (arith, held_in c.args.w (length c.args.runs.now / 3) c.loop-k.k (omega arith))

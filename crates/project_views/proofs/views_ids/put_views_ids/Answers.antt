@@ -1,6 +1,5 @@
 use native.Mathlib.Numerals.{add-one}
 use lib.Arith.{sub_dec}
-use mir.Facts.{Fits-le}
 use Prim.Native.Nat.{◌-◌, ◌/◌}
 use native.Mathlib.Omega.{arith}
 use lib.ListN.{length}
@@ -14,9 +13,6 @@ loop-k-init c = let a = c.args in listed_none _ (views_ids a.views.now a.pool.no
 
 pub put_kept_id_at-to-requires : goal.put_kept_id_at-to-requires
 put_kept_id_at-to-requires c = let h = c.loop-k-test.true in let l = held_in c.args.w (length c.args.views.now / 16) (c.held-n.result - 1) (omega (arith, c.held-n.ensures)) in record { n_in_bounds = (omega arith, h); k_in_bounds = listed_room c.loop-k.invariant h }
-
-pub overflow_add-k : goal.overflow_add-k
-overflow_add-k c = rw (add-one c.loop-k.k) (Fits-le c.loop-k-test.true (record { fits = c.held-n.type_inv }))
 
 pub loop-k-smaller : goal.loop-k-smaller
 loop-k-smaller c = rw (add-one c.loop-k.k) (sub_dec c.held-n.result c.loop-k.k c.loop-k-test.true)

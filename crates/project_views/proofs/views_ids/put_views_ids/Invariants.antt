@@ -1,10 +1,6 @@
-use Prim.Native.Nat.{◌-◌}
 use Rattle.project_views.specs.Reach.{reach_of}
 use Rattle.project_views.proofs.Ids.{Listed, ids_in}
 use Rattle.project_views.proofs.views_ids.put_views_ids.Given as goal
 
 abbrev pub invariant-loop-k : goal.invariant-loop-k
-invariant-loop-k l = Listed (ids_in l.views l.pool (reach_of l.pool l.r) l.views_overlap l.first l.n) l.n l.initial.to l.to l.initial.out_ids l.out_ids l.k
-
-abbrev pub decreases-loop-k : goal.decreases-loop-k
-decreases-loop-k l = l.n - l.k
+invariant-loop-k l = Listed (ids_in l.views l.pool (reach_of l.pool l.r) l.views_overlap l.w.first l.n) l.n l.initial.to l.to l.initial.out_ids l.out_ids l.k

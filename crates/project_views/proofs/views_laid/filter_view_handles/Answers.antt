@@ -1,6 +1,5 @@
 use native.Mathlib.Numerals.{add-one}
 use lib.Arith.{sub_dec}
-use mir.Facts.{Fits-le}
 use Prim.Native.Nat.{◌-◌, ◌/◌}
 use native.Mathlib.Omega.{arith}
 use lib.ListN.{length}
@@ -18,10 +17,6 @@ loop-k-init c = let a = c.args in let f = shown_fill a.views.now a.pool.now a.w 
 pub put_kept_at-to-requires : goal.put_kept_at-to-requires
 unfolding views_laid
 put_kept_at-to-requires c = let i = c.loop-k.invariant in let h = c.loop-k-test.true in let l = held_in c.args.w (length c.args.views.now / 16) (c.held-n.result - 1) (omega (arith, c.held-n.ensures)) in record { n_in_bounds = (omega arith, h); k_in_bounds = grown_room i.0 i.1 h; k_in_bounds_2 = grown_room i.0 i.2 h }
-
-pub overflow_add-k : goal.overflow_add-k
-unfolding views_laid
-overflow_add-k c = rw (add-one c.loop-k.k) (Fits-le c.loop-k-test.true (record { fits = c.held-n.type_inv }))
 
 pub loop-k-smaller : goal.loop-k-smaller
 unfolding views_laid

@@ -1,4 +1,3 @@
-use Prim.Native.Nat.{◌-◌}
 use Rattle.records.specs.Fill.{sum, view_fill}
 use Rattle.emit.proofs.Laid.{Walk, Grown}
 use Rattle.project_views.specs.Reach.{reach_of}
@@ -6,9 +5,6 @@ use Rattle.project_views.proofs.Shows.{piece_rows, piece_pool, piece_in}
 use Rattle.project_views.proofs.views_laid.filter_view_handles.Given as goal
 
 abbrev pub invariant-loop-k : goal.invariant-loop-k
-invariant-loop-k l = Walk (sum view_fill) (piece_in l.views l.pool (reach_of l.pool l.r) l.views_overlap l.first l.n) l.n l.initial.to l.to l.k
-    × Grown piece_rows (piece_in l.views l.pool (reach_of l.pool l.r) l.views_overlap l.first l.n) l.n l.initial.to l.initial.out_views l.out_views l.k
-    × Grown piece_pool (piece_in l.views l.pool (reach_of l.pool l.r) l.views_overlap l.first l.n) l.n l.initial.to l.initial.out_pool l.out_pool l.k
-
-abbrev pub decreases-loop-k : goal.decreases-loop-k
-decreases-loop-k l = l.n - l.k
+invariant-loop-k l = Walk (sum view_fill) (piece_in l.views l.pool (reach_of l.pool l.r) l.views_overlap l.w.first l.n) l.n l.initial.to l.to l.k
+    × Grown piece_rows (piece_in l.views l.pool (reach_of l.pool l.r) l.views_overlap l.w.first l.n) l.n l.initial.to l.initial.out_views l.out_views l.k
+    × Grown piece_pool (piece_in l.views l.pool (reach_of l.pool l.r) l.views_overlap l.w.first l.n) l.n l.initial.to l.initial.out_pool l.out_pool l.k

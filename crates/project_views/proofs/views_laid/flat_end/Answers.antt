@@ -20,8 +20,8 @@ part-requires c = search (flats, rules)
 pub successor_of-requires : goal.successor_of-requires
 successor_of-requires c = search (flats, rules)
 
-pub enum_told-in-Nowhere : goal.enum_told-in-Nowhere
-enum_told-in-Nowhere c = search (flats, rules)
+pub enum_told-in-None : goal.enum_told-in-None
+enum_told-in-None c = search (flats, rules)
 
 pub enum_known-n : goal.enum_known-n
 enum_known-n c = search (flats, rules)
@@ -35,8 +35,8 @@ returns-in-Included c = search (flats, rules)
 pub returns-in-Excluded : goal.returns-in-Excluded
 returns-in-Excluded c = search (flats, rules)
 
-pub returns-in-Nowhere : goal.returns-in-Nowhere
-returns-in-Nowhere c = search (flats, rules)
+pub returns-in-None : goal.returns-in-None
+returns-in-None c = search (flats, rules)
 
-pub returns-in-Grown : goal.returns-in-Grown
-returns-in-Grown c = search (flats, rules)
+pub returns-in-Some : goal.returns-in-Some
+returns-in-Some c = search (flats, rules)

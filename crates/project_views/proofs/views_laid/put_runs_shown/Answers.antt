@@ -1,6 +1,5 @@
 use native.Mathlib.Numerals.{add-one}
 use lib.Arith.{sub_dec}
-use mir.Facts.{Fits-le}
 use Prim.Native.Nat.{◌/◌}
 use native.Mathlib.Omega.{arith}
 use lib.ListN.{length}
@@ -15,17 +14,9 @@ pub loop-k-init : goal.loop-k-init
 unfolding runs_laid runs_views_laid
 loop-k-init c = let a = c.args in let f = shown_fill a.runs.now a.views.now a.pool.now a.w (reach_of a.pool.now a.r) _ c.held-n.ensures in (walk_none, grown_none (rw f c.requires.w_in_bounds), grown_none (rw f c.requires.w_in_bounds_2), grown_none (rw f c.requires.w_in_bounds_3))
 
-pub overflow_add-first : goal.overflow_add-first
-unfolding runs_laid runs_views_laid
-overflow_add-first c = omega (arith, held_in c.args.w (length c.args.runs.now / 3) c.loop-k.k (omega arith))
-
 pub put_run_shown_at-to-requires : goal.put_run_shown_at-to-requires
 unfolding runs_laid runs_views_laid
 put_run_shown_at-to-requires c = let i = c.loop-k.invariant in let h = c.loop-k-test.true in record { i_in_bounds = held_in c.args.w (length c.args.runs.now / 3) c.loop-k.k (omega arith); i_in_bounds_2 = grown_room i.0 i.1 h; i_in_bounds_3 = grown_room i.0 i.2 h; i_in_bounds_4 = grown_room i.0 i.3 h }
-
-pub overflow_add-k : goal.overflow_add-k
-unfolding runs_laid runs_views_laid
-overflow_add-k c = rw (add-one c.loop-k.k) (Fits-le c.loop-k-test.true (record { fits = c.held-n.type_inv }))
 
 pub loop-k-smaller : goal.loop-k-smaller
 unfolding runs_laid runs_views_laid
@@ -50,3 +41,7 @@ shape_of-out_pool c = c.loop-k.invariant.3.long
 pub returns : goal.returns
 unfolding runs_laid runs_views_laid
 returns c = let a = c.args in let i = c.loop-k.invariant in let h = c.loop-k-test.false in let e = c.held-n.ensures in record { value = shown_past a.runs.now a.views.now a.pool.now a.w _ _ e a.c _ (walk_all_lem i.0 h); out_runs_after = shown_rows a.runs.now a.views.now a.pool.now a.w _ _ e a.c _ _ (grown_all i.0 i.1 h); out_views_after = shown_views a.runs.now a.views.now a.pool.now a.w _ _ e a.c _ _ (grown_all i.0 i.2 h); out_pool_after = shown_bytes a.runs.now a.views.now a.pool.now a.w _ _ e a.c _ _ (joined_all i.0 i.3 h) }
+
+pub overflow_add-w : goal.overflow_add-w
+unfolding runs_laid runs_views_laid
+overflow_add-w c = omega (arith, held_in c.args.w (length c.args.runs.now / 3) c.loop-k.k (omega arith))

@@ -11,18 +11,18 @@ pub returns-then-not-fits_in : goal.returns-then-not-fits_in
 unfolding tree_shown tree_in tree_fill
 returns-then-not-fits_in c = add_over _ _ _ _ c.fits_in.ensures (c.if-not-fits_in.true)
 
-pub add_views_shown-s-requires : goal.add_views_shown-s-requires
+pub add_views_shown-requires : goal.add_views_shown-requires
 unfolding tree_shown tree_in tree_fill
-add_views_shown-s-requires c = sym c.fits_in.ensures ∙ c.if-not-fits_in.false
+add_views_shown-requires c = sym c.fits_in.ensures ∙ c.if-not-fits_in.false
 
-pub returns-in_default : goal.returns-in_default
+pub returns-in_err-d : goal.returns-in_err-d
 unfolding tree_shown tree_in tree_fill
-returns-in_default c = let a = c.args in let t = tree_shown (reach_of a.pool.now a.r) (tree_in a.runs.now a.views.now a.pool.now a.t) in added_broken a.most a.c (sum view_fill t.l0) (sum run_fill t.runs) (tree_fill t) refl _ c.add_views_shown-s.ensures c.in_default.is
+returns-in_err-d c = rw c.from_residual.ensures (let a = c.args in let t = tree_shown (reach_of a.pool.now a.r) (tree_in a.runs.now a.views.now a.pool.now a.t) in added_broken a.most a.c (sum view_fill t.l0) (sum run_fill t.runs) (tree_fill t) refl _ c.add_views_shown.ensures c.in_err-d.was)
 
 pub add_runs_shown-requires : goal.add_runs_shown-requires
 unfolding tree_shown tree_in tree_fill
-add_runs_shown-requires c = (added_is _ _ _ _ (sym c.add_views_shown-s.ensures ∙ c.in-Fills.is)).1
+add_runs_shown-requires c = (added_is _ _ _ _ (sym c.add_views_shown.ensures ∙ c.in_ok-d.was)).1
 
 pub returns : goal.returns
 unfolding tree_shown tree_in tree_fill
-returns c = added_on _ _ _ _ _ refl _ _ _ c.add_views_shown-s.ensures c.in-Fills.is c.add_runs_shown.ensures
+returns c = added_on _ _ _ _ _ refl _ _ _ c.add_views_shown.ensures c.in_ok-d.was c.add_runs_shown.ensures

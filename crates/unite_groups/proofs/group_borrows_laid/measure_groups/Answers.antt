@@ -1,6 +1,5 @@
 use native.Mathlib.Numerals.{add-one}
 use lib.Arith.{sub_dec}
-use mir.Facts.{Fits-le}
 use mathlib.Core.Path.{sym, ◌∙◌}
 use Rattle.project_views.proofs.Summed.{summed_none, summed_more, summed_broken, summed_all}
 use Rattle.unite_groups.specs.Rows.{members_in}
@@ -15,13 +14,9 @@ pub loop-k-init : goal.loop-k-init
 unfolding members_in
 loop-k-init c = summed_none (sym c.fits_in.ensures ∙ c.if-not-fits_in.false)
 
-pub returns-in-Broken : goal.returns-in-Broken
+pub returns-in_err-d : goal.returns-in_err-d
 unfolding members_in
-returns-in-Broken c = summed_broken c.loop-k.invariant _ c.loop-k-test.true (added_row _ _ _ _ _ c.group_fill.ensures c.add.ensures) c.in-Broken.is
-
-pub overflow_add-k : goal.overflow_add-k
-unfolding members_in
-overflow_add-k c = rw (add-one c.loop-k.k) (Fits-le c.loop-k-test.true c.ranges.n)
+returns-in_err-d c = rw c.from_residual.ensures (summed_broken c.loop-k.invariant _ c.loop-k-test.true (added_row _ _ _ _ _ c.group_fill.ensures c.add.ensures) c.in_err-d.was)
 
 pub loop-k-smaller : goal.loop-k-smaller
 unfolding members_in
@@ -29,7 +24,7 @@ loop-k-smaller c = rw (add-one c.loop-k.k) (sub_dec c.args.n c.loop-k.k c.loop-k
 
 pub loop-k-preserved : goal.loop-k-preserved
 unfolding members_in
-loop-k-preserved c = summed_more c.loop-k.invariant _ c.loop-k-test.true (added_row _ _ _ _ _ c.group_fill.ensures c.add.ensures) c.in-Fills.is
+loop-k-preserved c = summed_more c.loop-k.invariant _ c.loop-k-test.true (added_row _ _ _ _ _ c.group_fill.ensures c.add.ensures) c.in_ok-d.was
 
 pub returns : goal.returns
 unfolding members_in

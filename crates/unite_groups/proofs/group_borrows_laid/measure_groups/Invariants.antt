@@ -1,4 +1,3 @@
-use Prim.Native.Nat.{◌-◌}
 use Rattle.project_views.proofs.Summed.{Summed}
 use Rattle.unite_groups.specs.Chosen.{member_fill}
 use Rattle.unite_groups.specs.Rows.{member_at}
@@ -6,6 +5,3 @@ use Rattle.unite_groups.proofs.group_borrows_laid.measure_groups.Given as goal
 
 abbrev pub invariant-loop-k : goal.invariant-loop-k
 invariant-loop-k l = Summed l.most member_fill (member_at l.groups l.work l.pool) l.n l.initial.d l.d l.k
-
-abbrev pub decreases-loop-k : goal.decreases-loop-k
-decreases-loop-k l = l.n - l.k

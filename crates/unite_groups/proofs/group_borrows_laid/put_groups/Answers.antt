@@ -1,6 +1,5 @@
 use native.Mathlib.Numerals.{add-one}
 use lib.Arith.{sub_dec}
-use mir.Facts.{Fits-le}
 use native.Mathlib.Omega.{arith}
 use Rattle.records.specs.Layout.{borrows_laid}
 use Rattle.emit.proofs.Laid.{walk_none, walk_more, walk_all_lem, grown_none, grown_room, grown_more, grown_all, joined_all}
@@ -15,10 +14,6 @@ loop-k-init c = let q = lent_each c.args.groups.now c.args.work.now c.args.pool.
 pub put_group_at-to-requires : goal.put_group_at-to-requires
 unfolding borrows_laid
 put_group_at-to-requires c = let i = c.loop-k.invariant in let h = c.loop-k-test.true in record { i_in_bounds = omega (arith, c.requires.n_in_bounds); i_in_bounds_2 = grown_room i.0 i.1 h; i_in_bounds_3 = grown_room i.0 i.2 h; i_in_bounds_4 = grown_room i.0 i.3 h }
-
-pub overflow_add-k : goal.overflow_add-k
-unfolding borrows_laid
-overflow_add-k c = rw (add-one c.loop-k.k) (Fits-le c.loop-k-test.true c.ranges.n)
 
 pub loop-k-smaller : goal.loop-k-smaller
 unfolding borrows_laid

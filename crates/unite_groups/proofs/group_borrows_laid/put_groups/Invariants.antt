@@ -1,4 +1,3 @@
-use Prim.Native.Nat.{◌-◌}
 use Rattle.records.specs.Fill.{borrow_fill}
 use Rattle.records.proofs.Columns.{borrow_rows, borrow_id_rows, borrow_pool}
 use Rattle.emit.proofs.Laid.{Walk, Grown}
@@ -12,6 +11,3 @@ invariant-loop-k l = Walk borrow_fill (λ i. lent_as (uuids_of l.fresh) i (membe
     × Grown borrow_rows (λ i. lent_as (uuids_of l.fresh) i (member_at l.groups l.work l.pool i)) l.n l.initial.to l.initial.out_borrows l.out_borrows l.k
     × Grown borrow_id_rows (λ i. lent_as (uuids_of l.fresh) i (member_at l.groups l.work l.pool i)) l.n l.initial.to l.initial.out_ids l.out_ids l.k
     × Grown borrow_pool (λ i. lent_as (uuids_of l.fresh) i (member_at l.groups l.work l.pool i)) l.n l.initial.to l.initial.out_pool l.out_pool l.k
-
-abbrev pub decreases-loop-k : goal.decreases-loop-k
-decreases-loop-k l = l.n - l.k

@@ -1,6 +1,5 @@
 use native.Mathlib.Numerals.{add-one}
 use lib.Arith.{sub_dec}
-use mir.Facts.{Fits-le}
 use Prim.Native.Nat.{◌/◌}
 use native.Mathlib.Omega.{arith}
 use lib.ListN.{length}
@@ -18,9 +17,6 @@ overflow_add-i c = search (rows, rules)
 
 pub group_borrow-to-requires : goal.group_borrow-to-requires
 group_borrow-to-requires c = let h = c.loop-k-test.true in record { i_in_bounds = held_in c.args.w (length c.args.borrows.now / 9) c.loop-k.k (omega (arith, c.held-n.ensures)); sources_in_bounds = c.requires.sources_in_bounds; groups_value = c.loop-k.invariant.ended; groups_in_bounds = entered_room _ _ _ _ _ _ _ _ _ _ _ c.loop-k.invariant h; i_in_bounds_2 = entered_space _ _ _ _ _ _ _ _ _ _ _ c.loop-k.invariant h }
-
-pub overflow_add-k : goal.overflow_add-k
-overflow_add-k c = rw (add-one c.loop-k.k) (Fits-le c.loop-k-test.true (record { fits = c.held-n.type_inv }))
 
 pub loop-k-smaller : goal.loop-k-smaller
 loop-k-smaller c = rw (add-one c.loop-k.k) (sub_dec c.held-n.result c.loop-k.k c.loop-k-test.true)

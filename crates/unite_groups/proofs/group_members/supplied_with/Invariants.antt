@@ -1,10 +1,6 @@
 use Rattle.unite_groups.proofs.Checkpoints.{Looked}
 use Rattle.records.specs.Decode.{bytes_in}
-use Prim.Native.Nat.{◌-◌}
 use Rattle.unite_groups.proofs.group_members.supplied_with.Given as goal
 
 abbrev pub invariant-loop-i : goal.invariant-loop-i
 invariant-loop-i l = Looked l.supplies l.pool (bytes_in l.pool l.path) l.n l.s l.i
-
-abbrev pub decreases-loop-i : goal.decreases-loop-i
-decreases-loop-i l = l.n - l.i

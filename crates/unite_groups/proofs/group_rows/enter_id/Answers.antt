@@ -19,8 +19,8 @@ overflow_mul-at c = let p = id_place c.args.work.now c.args.w c.args.x _ c.id_sp
 pub shift_words-requires : goal.shift_words-requires
 shift_words-requires c = let p = id_place c.args.work.now c.args.w c.args.x _ c.id_spot-s.ensures c.requires c.if-s.false in record { at_le_past = omega arith; by_in_bounds = omega arith }
 
-pub put_words-requires : goal.put_words-requires
-put_words-requires c = let p = id_place c.args.work.now c.args.w c.args.x _ c.id_spot-s.ensures c.requires c.if-s.false in rw (c.id_words-row.ensures, id_wide) (omega arith)
+pub put-requires : goal.put-requires
+put-requires c = let p = id_place c.args.work.now c.args.w c.args.x _ c.id_spot-s.ensures c.requires c.if-s.false in rw (c.id_words-row.ensures, id_wide) (omega arith)
 
 pub returns : goal.returns
-returns c = let e = c.id_spot-s.ensures in let r = c.requires in let h = c.if-s.false in record { value = id_more c.args.work.now c.args.w c.args.x _ e r h; work_after = id_laid c.args.work.now c.args.w c.args.x _ e r h _ _ _ c.shift_words.ensures c.id_words-row.ensures c.put_words.ensures }
+returns c = let e = c.id_spot-s.ensures in let r = c.requires in let h = c.if-s.false in record { value = id_more c.args.work.now c.args.w c.args.x _ e r h; work_after = id_laid c.args.work.now c.args.w c.args.x _ e r h _ _ _ c.shift_words.ensures c.id_words-row.ensures c.put.ensures.out_after }

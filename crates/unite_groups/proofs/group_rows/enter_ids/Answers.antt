@@ -1,6 +1,5 @@
 use native.Mathlib.Numerals.{add-one}
 use lib.Arith.{sub_dec}
-use mir.Facts.{Fits-le}
 use borrow.Author.Rules.{rules}
 use Rattle.lawful.proofs.Loops.{rows}
 use Rattle.unite_groups.proofs.IdSets.{setting_none, setting_room, setting_more, setting_all, window_ids}
@@ -17,9 +16,6 @@ id_at-x-requires c = search (rows, rules)
 
 pub enter_id-count-requires : goal.enter_id-count-requires
 enter_id-count-requires c = setting_room _ _ _ _ _ _ _ c.loop-k.invariant c.loop-k-test.true
-
-pub overflow_add-k : goal.overflow_add-k
-overflow_add-k c = rw (add-one c.loop-k.k) (Fits-le c.loop-k-test.true (record { fits = c.held-n.type_inv }))
 
 pub loop-k-smaller : goal.loop-k-smaller
 loop-k-smaller c = rw (add-one c.loop-k.k) (sub_dec c.held-n.result c.loop-k.k c.loop-k-test.true)

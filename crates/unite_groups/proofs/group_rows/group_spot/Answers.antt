@@ -1,6 +1,5 @@
 use native.Mathlib.Numerals.{add-one}
 use lib.Arith.{sub_dec}
-use mir.Facts.{Fits-le}
 use mathlib.Core.Path.{refl}
 use Rattle.unite_groups.proofs.Spots.{spotted_none, spotted_less, spotted_same, spotted_more, spotted_all}
 use Rattle.unite_groups.proofs.group_rows.group_spot.Goals as goal
@@ -13,9 +12,6 @@ returns-in-Less c = spotted_less _ _ _ _ _ c.loop-k.invariant c.loop-k-test.true
 
 pub returns-in-Equal : goal.returns-in-Equal
 returns-in-Equal c = spotted_same _ _ _ _ _ c.loop-k.invariant c.loop-k-test.true _ c.group_order.ensures c.in-Equal.is
-
-pub overflow_add-k : goal.overflow_add-k
-overflow_add-k c = rw (add-one c.loop-k.k) (Fits-le c.loop-k-test.true c.ranges.n)
 
 pub loop-k-smaller : goal.loop-k-smaller
 loop-k-smaller c = rw (add-one c.loop-k.k) (sub_dec c.args.n c.loop-k.k c.loop-k-test.true)

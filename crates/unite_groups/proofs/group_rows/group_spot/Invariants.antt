@@ -1,4 +1,3 @@
-use Prim.Native.Nat.{◌-◌}
 use Rattle.tables.specs.Layout.{up_to}
 use Rattle.unite_groups.specs.Steps.{spot_of, group_at, row_order}
 use Rattle.unite_groups.proofs.Spots.{Spotted}
@@ -6,6 +5,3 @@ use Rattle.unite_groups.proofs.group_rows.group_spot.Given as goal
 
 abbrev pub invariant-loop-k : goal.invariant-loop-k
 invariant-loop-k l = Spotted (spot_of (row_order l.work l.pool l.g) (up_to (group_at l.groups) l.n)) (row_order l.work l.pool l.g) (group_at l.groups) l.n l.k
-
-abbrev pub decreases-loop-k : goal.decreases-loop-k
-decreases-loop-k l = l.n - l.k

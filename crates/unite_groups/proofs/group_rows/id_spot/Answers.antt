@@ -1,6 +1,5 @@
 use native.Mathlib.Numerals.{add-one}
 use lib.Arith.{sub_dec}
-use mir.Facts.{Fits-le}
 use borrow.Author.Rules.{rules}
 use Rattle.lawful.proofs.Loops.{rows}
 use Rattle.unite_groups.proofs.Spots.{spots}
@@ -21,9 +20,6 @@ returns-in-Less c = search (id_spotted, rules)
 
 pub returns-in-Equal : goal.returns-in-Equal
 returns-in-Equal c = search (id_spotted, rules)
-
-pub overflow_add-k : goal.overflow_add-k
-overflow_add-k c = rw (add-one c.loop-k.k) (Fits-le c.loop-k-test.true (record { fits = c.held-n.type_inv }))
 
 pub loop-k-smaller : goal.loop-k-smaller
 loop-k-smaller c = rw (add-one c.loop-k.k) (sub_dec c.held-n.result c.loop-k.k c.loop-k-test.true)

@@ -1,6 +1,5 @@
 use native.Mathlib.Numerals.{add-one}
 use lib.Arith.{sub_dec}
-use mir.Facts.{Fits-le}
 use native.Mathlib.Omega.{arith}
 use borrow.Author.Rules.{rules}
 use Rattle.lawful.proofs.Loops.{rows}
@@ -26,22 +25,19 @@ pub id_at-requires-in-loop-k : goal.id_at-requires-in-loop-k
 id_at-requires-in-loop-k c = search (rows, rules)
 
 pub returns-in-Less : goal.returns-in-Less
-returns-in-Less c = even_less _ _ _ _ _ _ c.loop-k.invariant c.loop-k-test.true c.if-m-k.false _ _ _ c.id_at.ensures c.id_at-in-loop-k.ensures c.order_sst.ensures c.in-Less.is
-
-pub overflow_add-k : goal.overflow_add-k
-overflow_add-k c = rw (add-one c.loop-k.k) (Fits-le c.loop-k-test.true (record { fits = c.held-n.type_inv }))
+returns-in-Less c = even_less _ _ _ _ _ _ c.loop-k.invariant c.loop-k-test.true c.if-m-k.false _ _ _ c.id_at.ensures c.id_at-in-loop-k.ensures c.order.ensures c.in-Less.is
 
 pub loop-k-smaller : goal.loop-k-smaller
 loop-k-smaller c = rw (add-one c.loop-k.k) (sub_dec c.held-n.result c.loop-k.k c.loop-k-test.true)
 
 pub loop-k-preserved : goal.loop-k-preserved
-loop-k-preserved c = even_same _ _ _ _ _ _ c.loop-k.invariant c.loop-k-test.true c.if-m-k.false _ _ _ c.id_at.ensures c.id_at-in-loop-k.ensures c.order_sst.ensures c.in-Equal.is
+loop-k-preserved c = even_same _ _ _ _ _ _ c.loop-k.invariant c.loop-k-test.true c.if-m-k.false _ _ _ c.id_at.ensures c.id_at-in-loop-k.ensures c.order.ensures c.in-Equal.is
 
 pub returns-in-Greater : goal.returns-in-Greater
-returns-in-Greater c = even_greater _ _ _ _ _ _ c.loop-k.invariant c.loop-k-test.true c.if-m-k.false _ _ _ c.id_at.ensures c.id_at-in-loop-k.ensures c.order_sst.ensures c.in-Greater.is
+returns-in-Greater c = even_greater _ _ _ _ _ _ c.loop-k.invariant c.loop-k-test.true c.if-m-k.false _ _ _ c.id_at.ensures c.id_at-in-loop-k.ensures c.order.ensures c.in-Greater.is
 
-pub returns-then-k-m : goal.returns-then-k-m
-returns-then-k-m c = search (evens, rules)
+pub returns-then-n-m : goal.returns-then-n-m
+returns-then-n-m c = search (evens, rules)
 
 pub returns : goal.returns
 returns c = search (evens, rules)

@@ -7,6 +7,3 @@ use Rattle.unite_sources.proofs.prefix_lists.all_prefixes.Given as goal
 
 abbrev pub invariant-loop-i : goal.invariant-loop-i
 invariant-loop-i l = Gathering l.most l.segments l.pool l.sources (λ j. at l.order (j * 7)) l.n (length l.initial.prefixes) (places_in l.prefixes l.pool l.count) (length l.prefixes) l.count l.i
-
-abbrev pub decreases-loop-i : goal.decreases-loop-i
-decreases-loop-i l = l.n - l.i

@@ -7,6 +7,3 @@ use Rattle.unite_sources.proofs.prefix_lists.place_of.Given as goal
 
 abbrev pub invariant-loop-k : goal.invariant-loop-k
 invariant-loop-k l = Led (spot l.p (places_in l.list l.pool l.n)) (λ i. less_of (row l.pool l.list i) l.p) l.n l.k
-
-abbrev pub decreases-loop-k : goal.decreases-loop-k
-decreases-loop-k l = l.n - l.k

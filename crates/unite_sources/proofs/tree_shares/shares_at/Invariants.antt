@@ -12,6 +12,3 @@ use Rattle.unite_sources.proofs.tree_shares.shares_at.Given as goal
 
 abbrev pub invariant-loop-i : goal.invariant-loop-i
 invariant-loop-i l = Arranging tree_views (λ j. tree_of (segments_in l.segments l.runs l.views l.pool (window_at l.sources (at l.order (j * 7) + 10))) (bytes_in l.pool l.prefix)) l.n (length l.initial.shares) (ranged_trees (record { segments = l.segments; views = l.views; runs = l.runs; borrows = []; ids = []; pool = l.pool }) (ranged_in l.pool l.shares l.k)) (length l.shares) l.k l.i
-
-abbrev pub decreases-loop-i : goal.decreases-loop-i
-decreases-loop-i l = l.n - l.i

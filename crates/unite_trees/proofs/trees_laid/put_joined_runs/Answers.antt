@@ -31,10 +31,6 @@ unfolding trees_in runs_laid runs_views_laid
 put_runs_at-to-requires c = let i = c.loop-k.invariant in let h = c.loop-k-test.true in rw (left_now c.args.left c.args.n (tree_of c.args.t.now c.args.rows.now c.args.runs.now c.args.views.now c.args.pool.now) c.args.c _ _ c.loop-k.invariant.0)
     (record { i_in_bounds = omega arith; i_len_bound = omega (arith, part_within (tree_of c.args.t.now c.args.rows.now c.args.runs.now c.args.views.now c.args.pool.now) c.args.n c.loop-k.k c.loop-k-test.true, c.requires.pool_len_bound); i_in_bounds_2 = grown_room i.0 i.1 h; i_in_bounds_3 = grown_room i.0 i.2 h; i_in_bounds_4 = grown_room i.0 i.3 h })
 
-pub overflow_add-k : goal.overflow_add-k
-unfolding trees_in runs_laid runs_views_laid
-overflow_add-k c = omega (arith, c.loop-k-test.true, c.ranges.n)
-
 pub loop-k-smaller : goal.loop-k-smaller
 unfolding trees_in runs_laid runs_views_laid
 loop-k-smaller c = rw (add-one c.loop-k.k) (sub_dec c.args.n c.loop-k.k c.loop-k-test.true)

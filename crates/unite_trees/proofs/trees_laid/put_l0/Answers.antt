@@ -1,6 +1,5 @@
 use native.Mathlib.Numerals.{add-one}
 use lib.Arith.{sub_dec}
-use mir.Facts.{Fits-le}
 use mathlib.Core.Path.{ap, ◌∙◌}
 use native.Mathlib.Omega.{arith}
 use Rattle.tables.specs.Layout.{up_to, joined}
@@ -20,10 +19,6 @@ loop-k-init c = let f = views_fill_is (joined tree_l0 (up_to (tree_of c.args.t.n
 pub put_l0_at-to-requires : goal.put_l0_at-to-requires
 unfolding trees_in views_laid
 put_l0_at-to-requires c = let i = c.loop-k.invariant in let h = c.loop-k-test.true in record { i_in_bounds = omega arith; i_in_bounds_2 = grown_room i.0 i.1 h; i_in_bounds_3 = grown_room i.0 i.2 h }
-
-pub overflow_add-k : goal.overflow_add-k
-unfolding trees_in views_laid
-overflow_add-k c = rw (add-one c.loop-k.k) (Fits-le c.loop-k-test.true c.ranges.n)
 
 pub loop-k-smaller : goal.loop-k-smaller
 unfolding trees_in views_laid

@@ -1,6 +1,5 @@
 use native.Mathlib.Numerals.{add-one}
 use lib.Arith.{sub_dec}
-use mir.Facts.{Fits-le}
 use Prim.Native.Nat.{◌/◌}
 use native.Mathlib.Omega.{arith}
 use lib.ListN.{length}
@@ -23,17 +22,13 @@ pub overflow_sub-id-in-loop-k : goal.overflow_sub-id-in-loop-k
 unfolding run_fill run_bytes runs_laid runs_views_laid
 overflow_sub-id-in-loop-k c = omega (arith, (window_few c.args.runs.now c.args.views.now c.args.pool.now c.args.w _ c.held-n.ensures c.args.left c.requires.w_len_bound))
 
-pub overflow_add-first : goal.overflow_add-first
+pub overflow_add-w : goal.overflow_add-w
 unfolding run_fill run_bytes runs_laid runs_views_laid
-overflow_add-first c = omega (arith, held_in c.args.w (length c.args.runs.now / 3) c.loop-k.k (omega arith))
+overflow_add-w c = omega (arith, held_in c.args.w (length c.args.runs.now / 3) c.loop-k.k (omega arith))
 
 pub put_run_as-to-requires : goal.put_run_as-to-requires
 unfolding run_fill run_bytes runs_laid runs_views_laid
 put_run_as-to-requires c = let i = c.loop-k.invariant in let h = c.loop-k-test.true in record { i_in_bounds = held_in c.args.w (length c.args.runs.now / 3) c.loop-k.k (omega arith); i_in_bounds_2 = grown_room i.0 i.1 h; i_in_bounds_3 = grown_room i.0 i.2 h; i_in_bounds_4 = grown_room i.0 i.3 h }
-
-pub overflow_add-k : goal.overflow_add-k
-unfolding run_fill run_bytes runs_laid runs_views_laid
-overflow_add-k c = rw (add-one c.loop-k.k) (Fits-le c.loop-k-test.true (record { fits = c.held-n.type_inv }))
 
 pub loop-k-smaller : goal.loop-k-smaller
 unfolding run_fill run_bytes runs_laid runs_views_laid

@@ -1,6 +1,5 @@
 use native.Mathlib.Numerals.{add-one}
 use lib.Arith.{sub_dec}
-use mir.Facts.{Fits-le}
 use Prim.Native.Nat.{◌/◌}
 use native.Mathlib.Omega.{arith}
 use lib.ListN.{length}
@@ -13,21 +12,17 @@ pub loop-k-init : goal.loop-k-init
 unfolding runs_in
 loop-k-init c = summed_none c.requires
 
-pub overflow_add-first : goal.overflow_add-first
+pub overflow_add-w : goal.overflow_add-w
 unfolding runs_in
-overflow_add-first c = omega (arith, held_in c.args.w (length c.args.runs.now / 3) c.loop-k.k (omega arith))
+overflow_add-w c = omega (arith, held_in c.args.w (length c.args.runs.now / 3) c.loop-k.k (omega arith))
 
-pub add_run_at-s-requires : goal.add_run_at-s-requires
+pub add_run_at-requires : goal.add_run_at-requires
 unfolding runs_in
-add_run_at-s-requires c = record { i_in_bounds = held_in c.args.w (length c.args.runs.now / 3) c.loop-k.k (omega arith); most_value = summed_fits c.loop-k.invariant }
+add_run_at-requires c = record { i_in_bounds = held_in c.args.w (length c.args.runs.now / 3) c.loop-k.k (omega arith); most_value = summed_fits c.loop-k.invariant }
 
-pub returns-in_default : goal.returns-in_default
+pub returns-in_err-d : goal.returns-in_err-d
 unfolding runs_in
-returns-in_default c = rw (← c.held-n.ensures) (summed_broken c.loop-k.invariant _ c.loop-k-test.true c.add_run_at-s.ensures c.in_default.is)
-
-pub overflow_add-k : goal.overflow_add-k
-unfolding runs_in
-overflow_add-k c = rw (add-one c.loop-k.k) (Fits-le c.loop-k-test.true (record { fits = c.held-n.type_inv }))
+returns-in_err-d c = rw c.from_residual.ensures (rw (← c.held-n.ensures) (summed_broken c.loop-k.invariant _ c.loop-k-test.true c.add_run_at.ensures c.in_err-d.was))
 
 pub loop-k-smaller : goal.loop-k-smaller
 unfolding runs_in
@@ -35,7 +30,7 @@ loop-k-smaller c = rw (add-one c.loop-k.k) (sub_dec c.held-n.result c.loop-k.k c
 
 pub loop-k-preserved : goal.loop-k-preserved
 unfolding runs_in
-loop-k-preserved c = summed_more c.loop-k.invariant _ c.loop-k-test.true c.add_run_at-s.ensures c.in-Fills.is
+loop-k-preserved c = summed_more c.loop-k.invariant _ c.loop-k-test.true c.add_run_at.ensures c.in_ok-d.was
 
 pub returns : goal.returns
 unfolding runs_in

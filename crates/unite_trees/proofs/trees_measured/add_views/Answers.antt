@@ -1,6 +1,5 @@
 use native.Mathlib.Numerals.{add-one}
 use lib.Arith.{sub_dec}
-use mir.Facts.{Fits-le}
 use Prim.Native.Nat.{◌/◌}
 use native.Mathlib.Omega.{arith}
 use lib.ListN.{length}
@@ -13,21 +12,17 @@ pub loop-k-init : goal.loop-k-init
 unfolding views_in
 loop-k-init c = summed_none c.requires
 
-pub overflow_add-first : goal.overflow_add-first
+pub overflow_add-w : goal.overflow_add-w
 unfolding views_in
-overflow_add-first c = omega (arith, held_in c.args.w (length c.args.views.now / 16) c.loop-k.k (omega arith))
+overflow_add-w c = omega (arith, held_in c.args.w (length c.args.views.now / 16) c.loop-k.k (omega arith))
 
-pub add_view_at-s-requires : goal.add_view_at-s-requires
+pub add_view_at-requires : goal.add_view_at-requires
 unfolding views_in
-add_view_at-s-requires c = held_in c.args.w (length c.args.views.now / 16) c.loop-k.k (omega arith)
+add_view_at-requires c = held_in c.args.w (length c.args.views.now / 16) c.loop-k.k (omega arith)
 
-pub returns-in_default : goal.returns-in_default
+pub returns-in_err-d : goal.returns-in_err-d
 unfolding views_in
-returns-in_default c = rw (← c.held-n.ensures) (summed_broken c.loop-k.invariant _ c.loop-k-test.true c.add_view_at-s.ensures c.in_default.is)
-
-pub overflow_add-k : goal.overflow_add-k
-unfolding views_in
-overflow_add-k c = rw (add-one c.loop-k.k) (Fits-le c.loop-k-test.true (record { fits = c.held-n.type_inv }))
+returns-in_err-d c = rw c.from_residual.ensures (rw (← c.held-n.ensures) (summed_broken c.loop-k.invariant _ c.loop-k-test.true c.add_view_at.ensures c.in_err-d.was))
 
 pub loop-k-smaller : goal.loop-k-smaller
 unfolding views_in
@@ -35,7 +30,7 @@ loop-k-smaller c = rw (add-one c.loop-k.k) (sub_dec c.held-n.result c.loop-k.k c
 
 pub loop-k-preserved : goal.loop-k-preserved
 unfolding views_in
-loop-k-preserved c = summed_more c.loop-k.invariant _ c.loop-k-test.true c.add_view_at-s.ensures c.in-Fills.is
+loop-k-preserved c = summed_more c.loop-k.invariant _ c.loop-k-test.true c.add_view_at.ensures c.in_ok-d.was
 
 pub returns : goal.returns
 unfolding views_in

@@ -1,6 +1,5 @@
 use native.Mathlib.Numerals.{add-one}
 use lib.Arith.{sub_dec}
-use mir.Facts.{Fits-le}
 use native.Mathlib.Omega.{arith}
 use mathlib.Core.Path.{sym, ap, ◌∙◌}
 use Rattle.tables.specs.Layout.{up_to}
@@ -20,17 +19,13 @@ pub loop-k-init : goal.loop-k-init
 unfolding trees_in
 loop-k-init c = summed_none (sym c.fits_in.ensures ∙ c.if-not-fits_in.false)
 
-pub add_tree_at-s-requires : goal.add_tree_at-s-requires
+pub add_tree_at-requires : goal.add_tree_at-requires
 unfolding trees_in
-add_tree_at-s-requires c = record { i_in_bounds = omega arith; most_value = summed_fits c.loop-k.invariant }
+add_tree_at-requires c = record { i_in_bounds = omega arith; most_value = summed_fits c.loop-k.invariant }
 
-pub returns-in_default : goal.returns-in_default
+pub returns-in_err-d : goal.returns-in_err-d
 unfolding trees_in
-returns-in_default c = summed_broken c.loop-k.invariant _ c.loop-k-test.true c.add_tree_at-s.ensures c.in_default.is ∙ ap (add_of c.args.most c.args.c) (trees_fill (up_to (tree_of c.args.t.now c.args.rows.now c.args.runs.now c.args.views.now c.args.pool.now) c.args.n))
-
-pub overflow_add-k : goal.overflow_add-k
-unfolding trees_in
-overflow_add-k c = rw (add-one c.loop-k.k) (Fits-le c.loop-k-test.true c.ranges.n)
+returns-in_err-d c = rw c.from_residual.ensures (summed_broken c.loop-k.invariant _ c.loop-k-test.true c.add_tree_at.ensures c.in_err-d.was ∙ ap (add_of c.args.most c.args.c) (trees_fill (up_to (tree_of c.args.t.now c.args.rows.now c.args.runs.now c.args.views.now c.args.pool.now) c.args.n)))
 
 pub loop-k-smaller : goal.loop-k-smaller
 unfolding trees_in
@@ -38,7 +33,7 @@ loop-k-smaller c = rw (add-one c.loop-k.k) (sub_dec c.args.n c.loop-k.k c.loop-k
 
 pub loop-k-preserved : goal.loop-k-preserved
 unfolding trees_in
-loop-k-preserved c = summed_more c.loop-k.invariant _ c.loop-k-test.true c.add_tree_at-s.ensures c.in-Fills.is
+loop-k-preserved c = summed_more c.loop-k.invariant _ c.loop-k-test.true c.add_tree_at.ensures c.in_ok-d.was
 
 pub returns : goal.returns
 unfolding trees_in

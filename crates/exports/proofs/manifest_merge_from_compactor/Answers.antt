@@ -1,6 +1,0 @@
-use mathlib.Core.Path.{ap}
-use Rattle.exports_forms.specs.Replies.{wrote_reply}
-use Rattle.exports.proofs.manifest_merge_from_compactor.Goals as goal
-
-pub returns : goal.returns
-returns c = rw c.written_answer.ensures (ap wrote_reply (rw (c.limits_01-lim.ensures, c.room_fill-most.ensures) at c.merge-w.ensures))

@@ -1,7 +1,0 @@
-use Rattle.manifest_write.proofs.values_put.add_view_mark.Goals as goal
-
-pub returns-in-None : goal.returns-in-None
-returns-in-None c = rw c.in-None.is c.add_nil.ensures
-
-pub returns-in-Some : goal.returns-in-Some
-returns-in-Some c = rw c.in-Some.is c.add_id.ensures

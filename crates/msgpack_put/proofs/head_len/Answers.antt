@@ -1,0 +1,5 @@
+use Rattle.msgpack_put.proofs.Puts.{tagged_length}
+use Rattle.msgpack_put.proofs.head_len.Goals as goal
+
+pub returns : goal.returns
+returns c = tagged_length c.form-t.result _ c.form-t.ensures.0

@@ -1,8 +1,0 @@
-use Rattle.msgpack_put.proofs.Puts.{tagged_room, put_as}
-use Rattle.msgpack_put.proofs.put_uint.Goals as goal
-
-pub put_tagged-requires : goal.put_tagged-requires
-put_tagged-requires c = tagged_room _ _ c.uint_form-t.result _ c.uint_form-t.ensures.0 c.requires
-
-pub returns : goal.returns
-returns c = put_as _ _ _ _ _ _ c.uint_form-t.ensures.0 c.put_tagged.ensures

@@ -1,8 +1,0 @@
-use Rattle.std.proofs.Common.{◌-◌, ◌≤◌}
-use Rattle.replay.proofs.parts.words.Given as goal
-
-abbrev pub invariant-loop-i : goal.invariant-loop-i
-invariant-loop-i l = l.i ≤ 512
-
-abbrev pub decreases-loop-i : goal.decreases-loop-i
-decreases-loop-i l = 512 - l.i
