@@ -1,7 +1,7 @@
 // The audit program: reads a manifest as MessagePack on standard input and writes five lines, or why it is refused.
 #![tactic(auto)]
 
-use records::{Fill, Refusal};
+use records::{Fill, Refusal, Tables};
 use std::io;
 use std::io::Read;
 
@@ -53,7 +53,18 @@ fn audit(rt: &impl Print, s: &[u8]) -> io::Result<()> {
         &mut pool,
     ) {
         Err(r) => put_refusal(rt, r),
-        Ok(m) => match measure::measure(lim, &segments, &views, &runs, &borrows, &ids, &pool, m) {
+        Ok(m) => match measure::measure(
+            lim,
+            Tables {
+                segments: &segments,
+                views: &views,
+                runs: &runs,
+                borrows: &borrows,
+                ids: &ids,
+                pool: &pool,
+            },
+            m,
+        ) {
             Some(f) => put_fill(rt, f),
             None => put_refusal(rt, Refusal::Unlawful(1)),
         },

@@ -1,6 +1,6 @@
 // The clone, or why there is none.
 ghost use Rattle.std.specs.Prelude.{◌≡◌, ◌/◌, ◌<◌};
-ghost use Rattle.records.specs.Decode.{manifest_in};
+ghost use Rattle.records.specs.Decode.{manifest_in, lent_of};
 ghost use Rattle.lawful.specs.Judge.{judged_of};
 ghost use Rattle.borrows.specs.Clone.{uuids_of};
 ghost use Rattle.borrows.specs.Answer.{cloned_given, cloned_in};
@@ -10,18 +10,13 @@ use crate::clone_rows::{bare_fill, clone_fill, put_clone};
 use ids::Uuid;
 use lawful::lawful;
 use measure::fits_in;
-use records::{Fill, Limits, ManifestRow, Refusal};
+use records::{Fill, Limits, ManifestRow, Refusal, Tables};
 
 // The clone of a lawful manifest: the refusals 15, 4 and 16 in this order, then all of it is laid.
 // inner
 pub fn cloned_judged(
     lim: Limits,
-    segments: &[u64],
-    views: &[u64],
-    runs: &[u64],
-    borrows: &[u64],
-    ids: &[u64],
-    pool: &[u8],
+    tables: Tables,
     m: ManifestRow,
     path: &[u8],
     checkpoint: Uuid,
@@ -33,14 +28,14 @@ pub fn cloned_judged(
     out_ids: &mut [u64],
     out_pool: &mut [u8],
 ) -> Result<ManifestRow, Refusal>
-    requires { judged_of lim (record { segments = segments.now; views = views.now; runs = runs.now; borrows = borrows.now; ids = ids.now; pool = pool.now }) m ≡ Ok tt }
-    ensures { record { answer = result; out = record { segments = out_segments.new; views = out_views.new; runs = out_runs.new; borrows = out_borrows.new; ids = out_ids.new; pool = out_pool.new } } ≡ cloned_given lim (manifest_in (record { segments = segments.now; views = views.now; runs = runs.now; borrows = borrows.now; ids = ids.now; pool = pool.now }) m) path.now checkpoint (uuids_of fresh.now) (record { segments = out_segments.old; views = out_views.old; runs = out_runs.old; borrows = out_borrows.old; ids = out_ids.old; pool = out_pool.old }) }
+    requires { judged_of lim (lent_of tables) m ≡ Ok tt }
+    ensures { record { answer = result; out = record { segments = out_segments.new; views = out_views.new; runs = out_runs.new; borrows = out_borrows.new; ids = out_ids.new; pool = out_pool.new } } ≡ cloned_given lim (manifest_in (lent_of tables.entry) m) path.now checkpoint (uuids_of fresh.now) (record { segments = out_segments.old; views = out_views.old; runs = out_runs.old; borrows = out_borrows.old; ids = out_ids.old; pool = out_pool.old }) }
 {
     let w = m.external_dbs;
-    if lacks_final(borrows, w) {
+    if lacks_final(tables.borrows, w) {
         return Err(Refusal::NoFinal);
     }
-    match clone_fill(lim, segments, views, runs, borrows, ids, pool, m, path) {
+    match clone_fill(lim, tables, m, path) {
         None => Err(Refusal::NoRoom),
         Some(f) => {
             let room = Fill {
@@ -57,14 +52,9 @@ pub fn cloned_judged(
             if fresh.len() / 2 < f.borrows {
                 return Err(Refusal::TooFewFresh);
             }
-            let c = bare_fill(lim, segments, views, runs, borrows, ids, pool, m);
+            let c = bare_fill(lim, tables, m);
             Ok(put_clone(
-                segments,
-                views,
-                runs,
-                borrows,
-                ids,
-                pool,
+                tables,
                 m,
                 path,
                 checkpoint,
@@ -84,12 +74,7 @@ pub fn cloned_judged(
 // A manifest that borrows all it uses, from the parent at `path` or from those that the parent borrows from.
 pub fn cloned(
     lim: Limits,
-    segments: &[u64],
-    views: &[u64],
-    runs: &[u64],
-    borrows: &[u64],
-    ids: &[u64],
-    pool: &[u8],
+    tables: Tables,
     m: ManifestRow,
     path: &[u8],
     checkpoint: Uuid,
@@ -101,20 +86,15 @@ pub fn cloned(
     out_ids: &mut [u64],
     out_pool: &mut [u8],
 ) -> Result<ManifestRow, Refusal>
-    ensures { record { answer = result; out = record { segments = out_segments.new; views = out_views.new; runs = out_runs.new; borrows = out_borrows.new; ids = out_ids.new; pool = out_pool.new } } ≡ cloned_in lim (record { segments = segments.now; views = views.now; runs = runs.now; borrows = borrows.now; ids = ids.now; pool = pool.now }) m path.now checkpoint (uuids_of fresh.now) (record { segments = out_segments.old; views = out_views.old; runs = out_runs.old; borrows = out_borrows.old; ids = out_ids.old; pool = out_pool.old }) }
+    ensures { record { answer = result; out = record { segments = out_segments.new; views = out_views.new; runs = out_runs.new; borrows = out_borrows.new; ids = out_ids.new; pool = out_pool.new } } ≡ cloned_in lim (lent_of tables.entry) m path.now checkpoint (uuids_of fresh.now) (record { segments = out_segments.old; views = out_views.old; runs = out_runs.old; borrows = out_borrows.old; ids = out_ids.old; pool = out_pool.old }) }
 {
     if lim.path < path.len() {
         return Err(Refusal::OverLimit);
     }
-    match lawful(lim, segments, views, runs, borrows, ids, pool, m) {
+    match lawful(lim, tables, m) {
         Ok(()) => cloned_judged(
             lim,
-            segments,
-            views,
-            runs,
-            borrows,
-            ids,
-            pool,
+            tables,
             m,
             path,
             checkpoint,

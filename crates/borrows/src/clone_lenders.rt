@@ -5,7 +5,7 @@ ghost use Rattle.tables.specs.Window.{held_of};
 ghost use Rattle.records.specs.Row.{borrow_at};
 ghost use Rattle.records.specs.Words.{borrow_words};
 ghost use Rattle.records.specs.Layout.{borrow_row, borrows_laid, borrow_ids, borrow_path};
-ghost use Rattle.records.specs.Decode.{borrow_in, borrows_in, manifest_in};
+ghost use Rattle.records.specs.Decode.{borrow_in, borrows_in, manifest_in, lent_of};
 ghost use Rattle.records.specs.Fill.{plus, sum, borrow_fill};
 ghost use Rattle.borrows.specs.Owned.{owned_of};
 ghost use Rattle.borrows.specs.Clone.{uuids_of, fresh_at, final_of, renewed, renewed_all, of_parent, cloned_borrows, lacks_final, refuses15};
@@ -13,16 +13,13 @@ ghost use Rattle.borrows.specs.Clone.{uuids_of, fresh_at, final_of, renewed, ren
 use crate::ids_owned::own_all;
 use emit::{put_borrow, put_borrow_row};
 use ids::Uuid;
-use records::{BorrowRow, Fill, ManifestRow, Place, borrow_at};
+use records::{BorrowRow, Fill, ManifestRow, Place, Tables, borrow_at};
 use tables::{Window, held, put};
 
 fn is_missing(f: Option<Uuid>) -> bool
     ensures { result ≡ lacks_final f }
 {
-    match f {
-        None => true,
-        Some(_) => false,
-    }
+    f.is_none()
 }
 
 // Whether some borrow of the window has no final checkpoint.
@@ -185,12 +182,7 @@ fn put_parent(
 
 // Appends the clone's borrows: the old ones renewed, then that from the parent.
 pub fn put_clone_borrows(
-    segments: &[u64],
-    views: &[u64],
-    runs: &[u64],
-    borrows: &[u64],
-    ids: &[u64],
-    pool: &[u8],
+    tables: Tables,
     m: ManifestRow,
     path: &[u8],
     checkpoint: Uuid,
@@ -200,22 +192,22 @@ pub fn put_clone_borrows(
     out_pool: &mut [u8],
     c: Fill,
 )
-    requires borrows_in_bounds { held_of m.external_dbs (length borrows.now / 9) < length fresh.now / 2 }
-    requires fresh_in_bounds { (c.borrows + (sum borrow_fill (cloned_borrows (manifest_in (record { segments = segments.now; views = views.now; runs = runs.now; borrows = borrows.now; ids = ids.now; pool = pool.now }) m) path.now checkpoint (uuids_of fresh.now))).borrows) * 9 ≤ length out_borrows.old }
-    requires fresh_in_bounds_2 { (c.ids + (sum borrow_fill (cloned_borrows (manifest_in (record { segments = segments.now; views = views.now; runs = runs.now; borrows = borrows.now; ids = ids.now; pool = pool.now }) m) path.now checkpoint (uuids_of fresh.now))).ids) * 2 ≤ length out_ids.old }
-    requires fresh_in_bounds_3 { c.bytes + (sum borrow_fill (cloned_borrows (manifest_in (record { segments = segments.now; views = views.now; runs = runs.now; borrows = borrows.now; ids = ids.now; pool = pool.now }) m) path.now checkpoint (uuids_of fresh.now))).bytes ≤ length out_pool.old }
-    ensures out_borrows_after { out_borrows.new ≡ write out_borrows.old (c.borrows * 9) (borrows_laid c (cloned_borrows (manifest_in (record { segments = segments.now; views = views.now; runs = runs.now; borrows = borrows.now; ids = ids.now; pool = pool.now }) m) path.now checkpoint (uuids_of fresh.now))) }
-    ensures out_ids_after { out_ids.new ≡ write out_ids.old (c.ids * 2) (joined borrow_ids (cloned_borrows (manifest_in (record { segments = segments.now; views = views.now; runs = runs.now; borrows = borrows.now; ids = ids.now; pool = pool.now }) m) path.now checkpoint (uuids_of fresh.now))) }
-    ensures out_pool_after { out_pool.new ≡ write out_pool.old c.bytes (joined borrow_path (cloned_borrows (manifest_in (record { segments = segments.now; views = views.now; runs = runs.now; borrows = borrows.now; ids = ids.now; pool = pool.now }) m) path.now checkpoint (uuids_of fresh.now))) }
+    requires borrows_in_bounds { held_of m.external_dbs (length tables.borrows.now / 9) < length fresh.now / 2 }
+    requires fresh_in_bounds { (c.borrows + (sum borrow_fill (cloned_borrows (manifest_in (lent_of tables) m) path.now checkpoint (uuids_of fresh.now))).borrows) * 9 ≤ length out_borrows.old }
+    requires fresh_in_bounds_2 { (c.ids + (sum borrow_fill (cloned_borrows (manifest_in (lent_of tables) m) path.now checkpoint (uuids_of fresh.now))).ids) * 2 ≤ length out_ids.old }
+    requires fresh_in_bounds_3 { c.bytes + (sum borrow_fill (cloned_borrows (manifest_in (lent_of tables) m) path.now checkpoint (uuids_of fresh.now))).bytes ≤ length out_pool.old }
+    ensures out_borrows_after { out_borrows.new ≡ write out_borrows.old (c.borrows * 9) (borrows_laid c (cloned_borrows (manifest_in (lent_of tables.entry) m) path.now checkpoint (uuids_of fresh.now))) }
+    ensures out_ids_after { out_ids.new ≡ write out_ids.old (c.ids * 2) (joined borrow_ids (cloned_borrows (manifest_in (lent_of tables.entry) m) path.now checkpoint (uuids_of fresh.now))) }
+    ensures out_pool_after { out_pool.new ≡ write out_pool.old c.bytes (joined borrow_path (cloned_borrows (manifest_in (lent_of tables.entry) m) path.now checkpoint (uuids_of fresh.now))) }
 {
     let w = m.external_dbs;
-    let n = held(w, borrows.len() / 9);
+    let n = held(w, tables.borrows.len() / 9);
     let u = fresh_at(fresh, n);
     let to = put_renewed(
-        borrows,
+        tables.borrows,
         w,
-        ids,
-        pool,
+        tables.ids,
+        tables.pool,
         fresh,
         out_borrows,
         out_ids,
@@ -223,11 +215,11 @@ pub fn put_clone_borrows(
         c,
     );
     put_parent(
-        segments,
-        views,
-        runs,
-        borrows,
-        ids,
+        tables.segments,
+        tables.views,
+        tables.runs,
+        tables.borrows,
+        tables.ids,
         m,
         path,
         checkpoint,

@@ -3,7 +3,7 @@ ghost use Rattle.std.specs.Prelude.{◌≡◌, true, ◌+◌, ◌/◌, ◌<◌, 
 ghost use Rattle.tables.specs.Layout.{over};
 ghost use Rattle.tables.specs.Window.{held_of};
 ghost use Rattle.records.specs.Layout.{manifest_row, layout};
-ghost use Rattle.records.specs.Decode.{manifest_in};
+ghost use Rattle.records.specs.Decode.{manifest_in, lent_of};
 ghost use Rattle.records.specs.Fill.{fits, manifest_fill};
 ghost use Rattle.lawful.specs.Judge.{judged_of};
 ghost use Rattle.copy.specs.Copy.{room_of};
@@ -17,7 +17,7 @@ use crate::ids_owned::{count_owned, id_fill};
 use copy::{manifest_row, put_manifest};
 use ids::Uuid;
 use measure::{add, measure};
-use records::{Fill, Limits, ManifestRow};
+use records::{Fill, Limits, ManifestRow, Tables};
 use tables::{Window, held};
 
 // The row of a manifest like `m` that is not initialized and borrows nothing.
@@ -44,21 +44,12 @@ fn bare(m: ManifestRow) -> ManifestRow
 }
 
 // What a lawful manifest fills without its borrows.
-pub fn bare_fill(
-    lim: Limits,
-    segments: &[u64],
-    views: &[u64],
-    runs: &[u64],
-    borrows: &[u64],
-    ids: &[u64],
-    pool: &[u8],
-    m: ManifestRow,
-) -> Fill
-    requires { judged_of lim (record { segments = segments.now; views = views.now; runs = runs.now; borrows = borrows.now; ids = ids.now; pool = pool.now }) m ≡ Ok tt }
-    ensures { result ≡ manifest_fill (bare_of (manifest_in (record { segments = segments.now; views = views.now; runs = runs.now; borrows = borrows.now; ids = ids.now; pool = pool.now }) m)) }
+pub fn bare_fill(lim: Limits, tables: Tables, m: ManifestRow) -> Fill
+    requires { judged_of lim (lent_of tables) m ≡ Ok tt }
+    ensures { result ≡ manifest_fill (bare_of (manifest_in (lent_of tables.entry) m)) }
 {
     let b = bare(m);
-    match measure(lim, segments, views, runs, borrows, ids, pool, b) {
+    match measure(lim, tables, b) {
         None => id_fill(0),
         Some(f) => f,
     }
@@ -66,21 +57,11 @@ pub fn bare_fill(
 
 // What the clone of a lawful manifest fills, where that is within the limits.
 // inner
-pub fn clone_fill(
-    lim: Limits,
-    segments: &[u64],
-    views: &[u64],
-    runs: &[u64],
-    borrows: &[u64],
-    ids: &[u64],
-    pool: &[u8],
-    m: ManifestRow,
-    path: &[u8],
-) -> Option<Fill>
-    requires { judged_of lim (record { segments = segments.now; views = views.now; runs = runs.now; borrows = borrows.now; ids = ids.now; pool = pool.now }) m ≡ Ok tt }
-    ensures { result ≡ add_of lim.fill (manifest_fill (manifest_in (record { segments = segments.now; views = views.now; runs = runs.now; borrows = borrows.now; ids = ids.now; pool = pool.now }) m)) (lent_fill path.now (owned_of (manifest_in (record { segments = segments.now; views = views.now; runs = runs.now; borrows = borrows.now; ids = ids.now; pool = pool.now }) m))) }
+pub fn clone_fill(lim: Limits, tables: Tables, m: ManifestRow, path: &[u8]) -> Option<Fill>
+    requires { judged_of lim (lent_of tables) m ≡ Ok tt }
+    ensures { result ≡ add_of lim.fill (manifest_fill (manifest_in (lent_of tables.entry) m)) (lent_fill path.now (owned_of (manifest_in (lent_of tables.entry) m))) }
 {
-    match measure(lim, segments, views, runs, borrows, ids, pool, m) {
+    match measure(lim, tables, m) {
         None => None,
         Some(f) => {
             let most = lim.fill;
@@ -89,7 +70,14 @@ pub fn clone_fill(
                 views: 0,
                 runs: 0,
                 borrows: 1,
-                ids: count_owned(segments, views, runs, borrows, ids, m),
+                ids: count_owned(
+                    tables.segments,
+                    tables.views,
+                    tables.runs,
+                    tables.borrows,
+                    tables.ids,
+                    m,
+                ),
                 bytes: path.len(),
             };
             add(most, f, more)
@@ -99,12 +87,7 @@ pub fn clone_fill(
 
 // Lays a manifest at the front of the tables: behind nothing.
 fn put_front(
-    segments: &[u64],
-    views: &[u64],
-    runs: &[u64],
-    borrows: &[u64],
-    ids: &[u64],
-    pool: &[u8],
+    tables: Tables,
     m: ManifestRow,
     out_segments: &mut [u64],
     out_views: &mut [u64],
@@ -113,14 +96,14 @@ fn put_front(
     out_ids: &mut [u64],
     out_pool: &mut [u8],
 ) -> ManifestRow
-    requires { fits (manifest_fill (manifest_in (record { segments = segments.now; views = views.now; runs = runs.now; borrows = borrows.now; ids = ids.now; pool = pool.now }) m)) (room_of (record { segments = out_segments.old; views = out_views.old; runs = out_runs.old; borrows = out_borrows.old; ids = out_ids.old; pool = out_pool.old })) ≡ true }
-    ensures value { result ≡ manifest_row (manifest_in (record { segments = segments.now; views = views.now; runs = runs.now; borrows = borrows.now; ids = ids.now; pool = pool.now }) m) }
-    ensures out_segments_after { out_segments.new ≡ over out_segments.old (layout (manifest_in (record { segments = segments.now; views = views.now; runs = runs.now; borrows = borrows.now; ids = ids.now; pool = pool.now }) m)).segments }
-    ensures out_views_after { out_views.new ≡ over out_views.old (layout (manifest_in (record { segments = segments.now; views = views.now; runs = runs.now; borrows = borrows.now; ids = ids.now; pool = pool.now }) m)).views }
-    ensures out_runs_after { out_runs.new ≡ over out_runs.old (layout (manifest_in (record { segments = segments.now; views = views.now; runs = runs.now; borrows = borrows.now; ids = ids.now; pool = pool.now }) m)).runs }
-    ensures out_borrows_after { out_borrows.new ≡ over out_borrows.old (layout (manifest_in (record { segments = segments.now; views = views.now; runs = runs.now; borrows = borrows.now; ids = ids.now; pool = pool.now }) m)).borrows }
-    ensures out_ids_after { out_ids.new ≡ over out_ids.old (layout (manifest_in (record { segments = segments.now; views = views.now; runs = runs.now; borrows = borrows.now; ids = ids.now; pool = pool.now }) m)).ids }
-    ensures out_pool_after { out_pool.new ≡ over out_pool.old (layout (manifest_in (record { segments = segments.now; views = views.now; runs = runs.now; borrows = borrows.now; ids = ids.now; pool = pool.now }) m)).pool }
+    requires { fits (manifest_fill (manifest_in (lent_of tables) m)) (room_of (record { segments = out_segments.old; views = out_views.old; runs = out_runs.old; borrows = out_borrows.old; ids = out_ids.old; pool = out_pool.old })) ≡ true }
+    ensures value { result ≡ manifest_row (manifest_in (lent_of tables.entry) m) }
+    ensures out_segments_after { out_segments.new ≡ over out_segments.old (layout (manifest_in (lent_of tables.entry) m)).segments }
+    ensures out_views_after { out_views.new ≡ over out_views.old (layout (manifest_in (lent_of tables.entry) m)).views }
+    ensures out_runs_after { out_runs.new ≡ over out_runs.old (layout (manifest_in (lent_of tables.entry) m)).runs }
+    ensures out_borrows_after { out_borrows.new ≡ over out_borrows.old (layout (manifest_in (lent_of tables.entry) m)).borrows }
+    ensures out_ids_after { out_ids.new ≡ over out_ids.old (layout (manifest_in (lent_of tables.entry) m)).ids }
+    ensures out_pool_after { out_pool.new ≡ over out_pool.old (layout (manifest_in (lent_of tables.entry) m)).pool }
 {
     let none = Fill {
         segments: 0,
@@ -131,12 +114,7 @@ fn put_front(
         bytes: 0,
     };
     put_manifest(
-        segments,
-        views,
-        runs,
-        borrows,
-        ids,
-        pool,
+        tables,
         m,
         out_segments,
         out_views,
@@ -150,12 +128,7 @@ fn put_front(
 
 // Lays a manifest without its borrows at the front of the tables.
 fn put_bare(
-    segments: &[u64],
-    views: &[u64],
-    runs: &[u64],
-    borrows: &[u64],
-    ids: &[u64],
-    pool: &[u8],
+    tables: Tables,
     m: ManifestRow,
     out_segments: &mut [u64],
     out_views: &mut [u64],
@@ -164,23 +137,18 @@ fn put_bare(
     out_ids: &mut [u64],
     out_pool: &mut [u8],
 ) -> ManifestRow
-    requires { fits (manifest_fill (bare_of (manifest_in (record { segments = segments.now; views = views.now; runs = runs.now; borrows = borrows.now; ids = ids.now; pool = pool.now }) m))) (room_of (record { segments = out_segments.old; views = out_views.old; runs = out_runs.old; borrows = out_borrows.old; ids = out_ids.old; pool = out_pool.old })) ≡ true }
-    ensures value { result ≡ manifest_row (bare_of (manifest_in (record { segments = segments.now; views = views.now; runs = runs.now; borrows = borrows.now; ids = ids.now; pool = pool.now }) m)) }
-    ensures out_segments_after { out_segments.new ≡ over out_segments.old (layout (bare_of (manifest_in (record { segments = segments.now; views = views.now; runs = runs.now; borrows = borrows.now; ids = ids.now; pool = pool.now }) m))).segments }
-    ensures out_views_after { out_views.new ≡ over out_views.old (layout (bare_of (manifest_in (record { segments = segments.now; views = views.now; runs = runs.now; borrows = borrows.now; ids = ids.now; pool = pool.now }) m))).views }
-    ensures out_runs_after { out_runs.new ≡ over out_runs.old (layout (bare_of (manifest_in (record { segments = segments.now; views = views.now; runs = runs.now; borrows = borrows.now; ids = ids.now; pool = pool.now }) m))).runs }
-    ensures out_borrows_after { out_borrows.new ≡ over out_borrows.old (layout (bare_of (manifest_in (record { segments = segments.now; views = views.now; runs = runs.now; borrows = borrows.now; ids = ids.now; pool = pool.now }) m))).borrows }
-    ensures out_ids_after { out_ids.new ≡ over out_ids.old (layout (bare_of (manifest_in (record { segments = segments.now; views = views.now; runs = runs.now; borrows = borrows.now; ids = ids.now; pool = pool.now }) m))).ids }
-    ensures out_pool_after { out_pool.new ≡ over out_pool.old (layout (bare_of (manifest_in (record { segments = segments.now; views = views.now; runs = runs.now; borrows = borrows.now; ids = ids.now; pool = pool.now }) m))).pool }
+    requires { fits (manifest_fill (bare_of (manifest_in (lent_of tables) m))) (room_of (record { segments = out_segments.old; views = out_views.old; runs = out_runs.old; borrows = out_borrows.old; ids = out_ids.old; pool = out_pool.old })) ≡ true }
+    ensures value { result ≡ manifest_row (bare_of (manifest_in (lent_of tables.entry) m)) }
+    ensures out_segments_after { out_segments.new ≡ over out_segments.old (layout (bare_of (manifest_in (lent_of tables.entry) m))).segments }
+    ensures out_views_after { out_views.new ≡ over out_views.old (layout (bare_of (manifest_in (lent_of tables.entry) m))).views }
+    ensures out_runs_after { out_runs.new ≡ over out_runs.old (layout (bare_of (manifest_in (lent_of tables.entry) m))).runs }
+    ensures out_borrows_after { out_borrows.new ≡ over out_borrows.old (layout (bare_of (manifest_in (lent_of tables.entry) m))).borrows }
+    ensures out_ids_after { out_ids.new ≡ over out_ids.old (layout (bare_of (manifest_in (lent_of tables.entry) m))).ids }
+    ensures out_pool_after { out_pool.new ≡ over out_pool.old (layout (bare_of (manifest_in (lent_of tables.entry) m))).pool }
 {
     let b = bare(m);
     put_front(
-        segments,
-        views,
-        runs,
-        borrows,
-        ids,
-        pool,
+        tables,
         b,
         out_segments,
         out_views,
@@ -193,12 +161,7 @@ fn put_bare(
 
 // Lays the clone at the front of the tables: all but its borrows, which fills `c`, then its borrows.
 pub fn put_clone(
-    segments: &[u64],
-    views: &[u64],
-    runs: &[u64],
-    borrows: &[u64],
-    ids: &[u64],
-    pool: &[u8],
+    tables: Tables,
     m: ManifestRow,
     path: &[u8],
     checkpoint: Uuid,
@@ -211,26 +174,21 @@ pub fn put_clone(
     out_pool: &mut [u8],
     c: Fill,
 ) -> ManifestRow
-    requires c_value { c ≡ manifest_fill (bare_of (manifest_in (record { segments = segments.now; views = views.now; runs = runs.now; borrows = borrows.now; ids = ids.now; pool = pool.now }) m)) }
-    requires borrows_in_bounds { held_of m.external_dbs (length borrows.now / 9) < length fresh.now / 2 }
-    requires out_pool_value { fits (manifest_fill (cloned_of (manifest_in (record { segments = segments.now; views = views.now; runs = runs.now; borrows = borrows.now; ids = ids.now; pool = pool.now }) m) path.now checkpoint (uuids_of fresh.now))) (room_of (record { segments = out_segments.old; views = out_views.old; runs = out_runs.old; borrows = out_borrows.old; ids = out_ids.old; pool = out_pool.old })) ≡ true }
-    ensures value { result ≡ manifest_row (cloned_of (manifest_in (record { segments = segments.now; views = views.now; runs = runs.now; borrows = borrows.now; ids = ids.now; pool = pool.now }) m) path.now checkpoint (uuids_of fresh.now)) }
-    ensures out_segments_after { out_segments.new ≡ over out_segments.old (layout (cloned_of (manifest_in (record { segments = segments.now; views = views.now; runs = runs.now; borrows = borrows.now; ids = ids.now; pool = pool.now }) m) path.now checkpoint (uuids_of fresh.now))).segments }
-    ensures out_views_after { out_views.new ≡ over out_views.old (layout (cloned_of (manifest_in (record { segments = segments.now; views = views.now; runs = runs.now; borrows = borrows.now; ids = ids.now; pool = pool.now }) m) path.now checkpoint (uuids_of fresh.now))).views }
-    ensures out_runs_after { out_runs.new ≡ over out_runs.old (layout (cloned_of (manifest_in (record { segments = segments.now; views = views.now; runs = runs.now; borrows = borrows.now; ids = ids.now; pool = pool.now }) m) path.now checkpoint (uuids_of fresh.now))).runs }
-    ensures out_borrows_after { out_borrows.new ≡ over out_borrows.old (layout (cloned_of (manifest_in (record { segments = segments.now; views = views.now; runs = runs.now; borrows = borrows.now; ids = ids.now; pool = pool.now }) m) path.now checkpoint (uuids_of fresh.now))).borrows }
-    ensures out_ids_after { out_ids.new ≡ over out_ids.old (layout (cloned_of (manifest_in (record { segments = segments.now; views = views.now; runs = runs.now; borrows = borrows.now; ids = ids.now; pool = pool.now }) m) path.now checkpoint (uuids_of fresh.now))).ids }
-    ensures out_pool_after { out_pool.new ≡ over out_pool.old (layout (cloned_of (manifest_in (record { segments = segments.now; views = views.now; runs = runs.now; borrows = borrows.now; ids = ids.now; pool = pool.now }) m) path.now checkpoint (uuids_of fresh.now))).pool }
+    requires c_value { c ≡ manifest_fill (bare_of (manifest_in (lent_of tables) m)) }
+    requires borrows_in_bounds { held_of m.external_dbs (length tables.borrows.now / 9) < length fresh.now / 2 }
+    requires out_pool_value { fits (manifest_fill (cloned_of (manifest_in (lent_of tables) m) path.now checkpoint (uuids_of fresh.now))) (room_of (record { segments = out_segments.old; views = out_views.old; runs = out_runs.old; borrows = out_borrows.old; ids = out_ids.old; pool = out_pool.old })) ≡ true }
+    ensures value { result ≡ manifest_row (cloned_of (manifest_in (lent_of tables.entry) m) path.now checkpoint (uuids_of fresh.now)) }
+    ensures out_segments_after { out_segments.new ≡ over out_segments.old (layout (cloned_of (manifest_in (lent_of tables.entry) m) path.now checkpoint (uuids_of fresh.now))).segments }
+    ensures out_views_after { out_views.new ≡ over out_views.old (layout (cloned_of (manifest_in (lent_of tables.entry) m) path.now checkpoint (uuids_of fresh.now))).views }
+    ensures out_runs_after { out_runs.new ≡ over out_runs.old (layout (cloned_of (manifest_in (lent_of tables.entry) m) path.now checkpoint (uuids_of fresh.now))).runs }
+    ensures out_borrows_after { out_borrows.new ≡ over out_borrows.old (layout (cloned_of (manifest_in (lent_of tables.entry) m) path.now checkpoint (uuids_of fresh.now))).borrows }
+    ensures out_ids_after { out_ids.new ≡ over out_ids.old (layout (cloned_of (manifest_in (lent_of tables.entry) m) path.now checkpoint (uuids_of fresh.now))).ids }
+    ensures out_pool_after { out_pool.new ≡ over out_pool.old (layout (cloned_of (manifest_in (lent_of tables.entry) m) path.now checkpoint (uuids_of fresh.now))).pool }
 {
     let w = m.external_dbs;
-    let n = held(w, borrows.len() / 9);
+    let n = held(w, tables.borrows.len() / 9);
     let laid = put_bare(
-        segments,
-        views,
-        runs,
-        borrows,
-        ids,
-        pool,
+        tables,
         m,
         out_segments,
         out_views,
@@ -240,12 +198,7 @@ pub fn put_clone(
         out_pool,
     );
     put_clone_borrows(
-        segments,
-        views,
-        runs,
-        borrows,
-        ids,
-        pool,
+        tables,
         m,
         path,
         checkpoint,

@@ -3,7 +3,7 @@ ghost use Rattle.std.specs.Prelude.{◌≡◌, [], ◌∷◌, ◌+◌, ◌*◌, 
 ghost use Rattle.tables.specs.Layout.{joined};
 ghost use Rattle.records.specs.Model.{segment_trees};
 ghost use Rattle.records.specs.Row.{view_at, run_at, segment_at};
-ghost use Rattle.records.specs.Decode.{view_in, views_in, run_in, runs_in, tree_in, segment_in, segments_in, borrows_in, manifest_in};
+ghost use Rattle.records.specs.Decode.{view_in, views_in, run_in, runs_in, tree_in, segment_in, segments_in, borrows_in, manifest_in, lent_of};
 ghost use Rattle.records.specs.Fill.{ids as id_fill};
 ghost use Rattle.lawful.specs.Judge.{judged_of};
 ghost use Rattle.measure.specs.Within.{run_views, tree_views};
@@ -15,8 +15,8 @@ use copy::no_room;
 use ids::{SstId, same};
 use lawful::lawful;
 use records::{
-    Fill, Limits, ManifestRow, Refusal, TreeRow, borrow_at, id_at, id_words, run_at, segment_at,
-    view_at,
+    Fill, Limits, ManifestRow, Refusal, Tables, TreeRow, borrow_at, id_at, id_words, run_at,
+    segment_at, view_at,
 };
 use tables::{Window, held, put};
 
@@ -266,44 +266,50 @@ pub fn count_owned(
 // inner
 pub fn owned_judged(
     lim: Limits,
-    segments: &[u64],
-    views: &[u64],
-    runs: &[u64],
-    borrows: &[u64],
-    ids: &[u64],
-    pool: &[u8],
+    tables: Tables,
     m: ManifestRow,
     out_ids: &mut [u64],
 ) -> Result<usize, Refusal>
-    requires { judged_of lim (record { segments = segments.now; views = views.now; runs = runs.now; borrows = borrows.now; ids = ids.now; pool = pool.now }) m ≡ Ok tt }
-    ensures { record { answer = result; out = out_ids.new } ≡ owned_given lim (manifest_in (record { segments = segments.now; views = views.now; runs = runs.now; borrows = borrows.now; ids = ids.now; pool = pool.now }) m) out_ids.old }
+    requires { judged_of lim (lent_of tables) m ≡ Ok tt }
+    ensures { record { answer = result; out = out_ids.new } ≡ owned_given lim (manifest_in (lent_of tables.entry) m) out_ids.old }
 {
-    let n = count_owned(segments, views, runs, borrows, ids, m);
+    let n = count_owned(
+        tables.segments,
+        tables.views,
+        tables.runs,
+        tables.borrows,
+        tables.ids,
+        m,
+    );
     let room = id_fill(out_ids.len() / 2);
     let result = id_fill(n);
     if no_room(lim, room, result) {
         return Err(Refusal::NoRoom);
     }
-    own_all(segments, views, runs, borrows, ids, m, out_ids, 0);
+    own_all(
+        tables.segments,
+        tables.views,
+        tables.runs,
+        tables.borrows,
+        tables.ids,
+        m,
+        out_ids,
+        0,
+    );
     Ok(n)
 }
 
 // The ids that a manifest uses and borrows from no one, in record order.
 pub fn owned_ssts(
     lim: Limits,
-    segments: &[u64],
-    views: &[u64],
-    runs: &[u64],
-    borrows: &[u64],
-    ids: &[u64],
-    pool: &[u8],
+    tables: Tables,
     m: ManifestRow,
     out_ids: &mut [u64],
 ) -> Result<usize, Refusal>
-    ensures { record { answer = result; out = out_ids.new } ≡ owned_in lim (record { segments = segments.now; views = views.now; runs = runs.now; borrows = borrows.now; ids = ids.now; pool = pool.now }) m out_ids.old }
+    ensures { record { answer = result; out = out_ids.new } ≡ owned_in lim (lent_of tables.entry) m out_ids.old }
 {
-    match lawful(lim, segments, views, runs, borrows, ids, pool, m) {
-        Ok(()) => { owned_judged(lim, segments, views, runs, borrows, ids, pool, m, out_ids) }
+    match lawful(lim, tables, m) {
+        Ok(()) => { owned_judged(lim, tables, m, out_ids) }
         Err(rule) => Err(Refusal::Unlawful(rule)),
     }
 }

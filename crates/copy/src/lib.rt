@@ -3,14 +3,14 @@
 
 ghost use Rattle.std.specs.Prelude.{◌≡◌, true, ◌++◌, ◌+◌, ◌*◌, ◌≤◌, length};
 ghost use Rattle.tables.specs.Layout.{write, joined};
-ghost use Rattle.records.specs.Decode.{tree_in, segments_in, name_in, borrows_in, manifest_in};
+ghost use Rattle.records.specs.Decode.{tree_in, segments_in, name_in, borrows_in, manifest_in, lent_of};
 ghost use Rattle.records.specs.Fill.{plus, sum, key_fill, tree_fill, segment_fill, borrow_fill, name_keys, fits, manifest_fill};
 ghost use Rattle.records.specs.Layout.{run, tree_row, tree_runs_laid, tree_views_laid, tree_bytes, segments_laid, segments_runs_laid, segments_views_laid, segment_bytes, name_row, borrows_laid, borrow_ids, borrow_path, manifest_row_at, layout_at};
 ghost use Rattle.copy.specs.Copy.{room_of, no_room, copy_of, copy_at_of};
 
 use emit::{LaidTree, put_borrows, put_name, put_segments, put_tree};
 use measure::{fits_in, left_of, measure};
-use records::{Fill, Limits, ManifestRow, Place, Refusal, TreeRow};
+use records::{Fill, Limits, ManifestRow, Place, Refusal, Tables, TreeRow};
 use tables::{Window, held};
 
 // The unsegmented tree, then the segments.
@@ -135,12 +135,7 @@ pub fn manifest_row(
 // Lays a manifest out behind what fills `c`.
 // inner
 pub fn put_manifest(
-    segments: &[u64],
-    views: &[u64],
-    runs: &[u64],
-    borrows: &[u64],
-    ids: &[u64],
-    pool: &[u8],
+    tables: Tables,
     m: ManifestRow,
     out_segments: &mut [u64],
     out_views: &mut [u64],
@@ -150,14 +145,14 @@ pub fn put_manifest(
     out_pool: &mut [u8],
     c: Fill,
 ) -> ManifestRow
-    requires { fits (plus c (manifest_fill (manifest_in (record { segments = segments.now; views = views.now; runs = runs.now; borrows = borrows.now; ids = ids.now; pool = pool.now }) m))) (room_of (record { segments = out_segments.old; views = out_views.old; runs = out_runs.old; borrows = out_borrows.old; ids = out_ids.old; pool = out_pool.old })) ≡ true }
-    ensures value { result ≡ manifest_row_at c (manifest_in (record { segments = segments.now; views = views.now; runs = runs.now; borrows = borrows.now; ids = ids.now; pool = pool.now }) m) }
-    ensures out_segments_after { out_segments.new ≡ write out_segments.old (c.segments * 12) (layout_at c (manifest_in (record { segments = segments.now; views = views.now; runs = runs.now; borrows = borrows.now; ids = ids.now; pool = pool.now }) m)).segments }
-    ensures out_views_after { out_views.new ≡ write out_views.old (c.views * 16) (layout_at c (manifest_in (record { segments = segments.now; views = views.now; runs = runs.now; borrows = borrows.now; ids = ids.now; pool = pool.now }) m)).views }
-    ensures out_runs_after { out_runs.new ≡ write out_runs.old (c.runs * 3) (layout_at c (manifest_in (record { segments = segments.now; views = views.now; runs = runs.now; borrows = borrows.now; ids = ids.now; pool = pool.now }) m)).runs }
-    ensures out_borrows_after { out_borrows.new ≡ write out_borrows.old (c.borrows * 9) (layout_at c (manifest_in (record { segments = segments.now; views = views.now; runs = runs.now; borrows = borrows.now; ids = ids.now; pool = pool.now }) m)).borrows }
-    ensures out_ids_after { out_ids.new ≡ write out_ids.old (c.ids * 2) (layout_at c (manifest_in (record { segments = segments.now; views = views.now; runs = runs.now; borrows = borrows.now; ids = ids.now; pool = pool.now }) m)).ids }
-    ensures out_pool_after { out_pool.new ≡ write out_pool.old c.bytes (layout_at c (manifest_in (record { segments = segments.now; views = views.now; runs = runs.now; borrows = borrows.now; ids = ids.now; pool = pool.now }) m)).pool }
+    requires { fits (plus c (manifest_fill (manifest_in (lent_of tables) m))) (room_of (record { segments = out_segments.old; views = out_views.old; runs = out_runs.old; borrows = out_borrows.old; ids = out_ids.old; pool = out_pool.old })) ≡ true }
+    ensures value { result ≡ manifest_row_at c (manifest_in (lent_of tables.entry) m) }
+    ensures out_segments_after { out_segments.new ≡ write out_segments.old (c.segments * 12) (layout_at c (manifest_in (lent_of tables.entry) m)).segments }
+    ensures out_views_after { out_views.new ≡ write out_views.old (c.views * 16) (layout_at c (manifest_in (lent_of tables.entry) m)).views }
+    ensures out_runs_after { out_runs.new ≡ write out_runs.old (c.runs * 3) (layout_at c (manifest_in (lent_of tables.entry) m)).runs }
+    ensures out_borrows_after { out_borrows.new ≡ write out_borrows.old (c.borrows * 9) (layout_at c (manifest_in (lent_of tables.entry) m)).borrows }
+    ensures out_ids_after { out_ids.new ≡ write out_ids.old (c.ids * 2) (layout_at c (manifest_in (lent_of tables.entry) m)).ids }
+    ensures out_pool_after { out_pool.new ≡ write out_pool.old c.bytes (layout_at c (manifest_in (lent_of tables.entry) m)).pool }
 {
     let t = m.tree;
     let w = m.segments;
@@ -165,11 +160,11 @@ pub fn put_manifest(
     let b = m.external_dbs;
     let laid = put_trees(
         t,
-        segments,
+        tables.segments,
         w,
-        runs,
-        views,
-        pool,
+        tables.runs,
+        tables.views,
+        tables.pool,
         out_segments,
         out_runs,
         out_views,
@@ -178,14 +173,24 @@ pub fn put_manifest(
     );
     let tree = laid.tree;
     let at = laid.past;
-    let name = put_rest(n, borrows, b, ids, pool, out_borrows, out_ids, out_pool, at);
+    let name = put_rest(
+        n,
+        tables.borrows,
+        b,
+        tables.ids,
+        tables.pool,
+        out_borrows,
+        out_ids,
+        out_pool,
+        at,
+    );
     let own = Window {
         first: c.segments,
-        count: held(w, segments.len() / 12),
+        count: held(w, tables.segments.len() / 12),
     };
     let lent = Window {
         first: c.borrows,
-        count: held(b, borrows.len() / 9),
+        count: held(b, tables.borrows.len() / 9),
     };
     manifest_row_at(m, tree, own, name, lent)
 }
@@ -206,12 +211,7 @@ pub fn no_room(lim: Limits, room: Fill, res: Fill) -> bool
 // inner
 pub fn copy_at(
     lim: Limits,
-    segments: &[u64],
-    views: &[u64],
-    runs: &[u64],
-    borrows: &[u64],
-    ids: &[u64],
-    pool: &[u8],
+    tables: Tables,
     m: ManifestRow,
     out_segments: &mut [u64],
     out_views: &mut [u64],
@@ -222,9 +222,9 @@ pub fn copy_at(
     c: Fill,
 ) -> Result<ManifestRow, Refusal>
     requires { fits c (room_of (record { segments = out_segments.old; views = out_views.old; runs = out_runs.old; borrows = out_borrows.old; ids = out_ids.old; pool = out_pool.old })) ≡ true }
-    ensures { record { answer = result; out = record { segments = out_segments.new; views = out_views.new; runs = out_runs.new; borrows = out_borrows.new; ids = out_ids.new; pool = out_pool.new } } ≡ copy_at_of lim c (record { segments = segments.now; views = views.now; runs = runs.now; borrows = borrows.now; ids = ids.now; pool = pool.now }) m (record { segments = out_segments.old; views = out_views.old; runs = out_runs.old; borrows = out_borrows.old; ids = out_ids.old; pool = out_pool.old }) }
+    ensures { record { answer = result; out = record { segments = out_segments.new; views = out_views.new; runs = out_runs.new; borrows = out_borrows.new; ids = out_ids.new; pool = out_pool.new } } ≡ copy_at_of lim c (lent_of tables.entry) m (record { segments = out_segments.old; views = out_views.old; runs = out_runs.old; borrows = out_borrows.old; ids = out_ids.old; pool = out_pool.old }) }
 {
-    match measure(lim, segments, views, runs, borrows, ids, pool, m) {
+    match measure(lim, tables, m) {
         None => Err(Refusal::Unlawful(1)),
         Some(f) => {
             let room = Fill {
@@ -240,12 +240,7 @@ pub fn copy_at(
                 return Err(Refusal::NoRoom);
             }
             Ok(put_manifest(
-                segments,
-                views,
-                runs,
-                borrows,
-                ids,
-                pool,
+                tables,
                 m,
                 out_segments,
                 out_views,
@@ -262,12 +257,7 @@ pub fn copy_at(
 // The canonical copy: the same records, laid out in order with no gaps, or nothing changed.
 pub fn canonical_copy(
     lim: Limits,
-    segments: &[u64],
-    views: &[u64],
-    runs: &[u64],
-    borrows: &[u64],
-    ids: &[u64],
-    pool: &[u8],
+    tables: Tables,
     m: ManifestRow,
     out_segments: &mut [u64],
     out_views: &mut [u64],
@@ -276,7 +266,7 @@ pub fn canonical_copy(
     out_ids: &mut [u64],
     out_pool: &mut [u8],
 ) -> Result<ManifestRow, Refusal>
-    ensures { record { answer = result; out = record { segments = out_segments.new; views = out_views.new; runs = out_runs.new; borrows = out_borrows.new; ids = out_ids.new; pool = out_pool.new } } ≡ copy_of lim (record { segments = segments.now; views = views.now; runs = runs.now; borrows = borrows.now; ids = ids.now; pool = pool.now }) m (record { segments = out_segments.old; views = out_views.old; runs = out_runs.old; borrows = out_borrows.old; ids = out_ids.old; pool = out_pool.old }) }
+    ensures { record { answer = result; out = record { segments = out_segments.new; views = out_views.new; runs = out_runs.new; borrows = out_borrows.new; ids = out_ids.new; pool = out_pool.new } } ≡ copy_of lim (lent_of tables.entry) m (record { segments = out_segments.old; views = out_views.old; runs = out_runs.old; borrows = out_borrows.old; ids = out_ids.old; pool = out_pool.old }) }
 {
     let none = Fill {
         segments: 0,
@@ -288,12 +278,7 @@ pub fn canonical_copy(
     };
     copy_at(
         lim,
-        segments,
-        views,
-        runs,
-        borrows,
-        ids,
-        pool,
+        tables,
         m,
         out_segments,
         out_views,

@@ -7,7 +7,7 @@ ghost use Rattle.encoded.specs.Select.{select_of};
 use crate::bytes_read::{has_tables, rows_of};
 use keys::Range;
 use manifest_read::LONGEST;
-use records::{Limits, Refusal};
+use records::{Limits, Refusal, Tables};
 use segments::{Looked, Selected, range_over, select_segments, tree_for_segment};
 
 // The tree of a prefix.
@@ -40,7 +40,19 @@ pub fn lookup(
         return Err(Refusal::NoRoom);
     }
     let m = rows_of(lim, s, segments, views, runs, borrows, ids)?;
-    tree_for_segment(lim, segments, views, runs, borrows, ids, s, m, prefix)
+    tree_for_segment(
+        lim,
+        Tables {
+            segments,
+            views,
+            runs,
+            borrows,
+            ids,
+            pool: s,
+        },
+        m,
+        prefix,
+    )
 }
 
 // ---- selection
@@ -76,5 +88,18 @@ pub fn select(
         return Err(Refusal::NoRoom);
     }
     let m = rows_of(lim, s, segments, views, runs, borrows, ids)?;
-    select_segments(lim, segments, views, runs, borrows, ids, s, m, args, r)
+    select_segments(
+        lim,
+        Tables {
+            segments,
+            views,
+            runs,
+            borrows,
+            ids,
+            pool: s,
+        },
+        m,
+        args,
+        r,
+    )
 }

@@ -1,6 +1,6 @@
 // Insert: the manifest of some bytes with one segment more, written.
 ghost use Rattle.std.specs.Prelude.{◌≡◌, true, [], ◌/◌, ◌≤◌, length};
-ghost use Rattle.records.specs.Decode.{manifest_in};
+ghost use Rattle.records.specs.Decode.{manifest_in, lent_of};
 ghost use Rattle.records.specs.Fill.{plus, fits, manifest_fill};
 ghost use Rattle.measure.specs.Measure.{l1_of};
 ghost use Rattle.copy.specs.Copy.{room_of, no_room};
@@ -19,25 +19,14 @@ use lawful::lawful;
 use manifest_read::LONGEST;
 use manifest_write::write_judged;
 use measure::fits_in;
-use records::{Fill, Limits, ManifestRow, Refusal};
+use records::{Fill, Limits, ManifestRow, Refusal, Tables};
 
 // Whether there is no room for a manifest that keeps L1 with an empty segment more, of a prefix of `len` bytes.
-fn lacks_room(
-    lim: Limits,
-    segments: &[u64],
-    views: &[u64],
-    runs: &[u64],
-    borrows: &[u64],
-    ids: &[u64],
-    pool: &[u8],
-    m: ManifestRow,
-    len: usize,
-    room: Fill,
-) -> bool
-    requires { l1_of lim (lent segments.now views.now runs.now borrows.now ids.now pool.now) m ≡ true }
-    ensures { result ≡ no_room lim room (plus (manifest_fill (manifest_in (lent segments.now views.now runs.now borrows.now ids.now pool.now) m)) (new_fill len)) }
+fn lacks_room(lim: Limits, tables: Tables, m: ManifestRow, len: usize, room: Fill) -> bool
+    requires { l1_of lim (lent_of tables) m ≡ true }
+    ensures { result ≡ no_room lim room (plus (manifest_fill (manifest_in (lent_of tables.entry) m)) (new_fill len)) }
 {
-    match filled_with(lim, segments, views, runs, borrows, ids, pool, m, len) {
+    match filled_with(lim, tables, m, len) {
         Some(f) => !fits_in(f, room),
         None => true,
     }
@@ -45,31 +34,21 @@ fn lacks_room(
 
 // Writes the manifest that a prefix entered at place `i`.
 fn write_entered(
-    segments: &[u64],
-    views: &[u64],
-    runs: &[u64],
-    borrows: &[u64],
-    ids: &[u64],
-    pool: &[u8],
+    tables: Tables,
     m: ManifestRow,
     i: usize,
     out: &mut [u8],
 ) -> Result<InsertedTo, Refusal>
-    ensures { record { answer = result; out = out.new } ≡ wrote i (put_of (manifest_bytes (manifest_in (lent segments.now views.now runs.now borrows.now ids.now pool.now) m)) out.old) }
+    ensures { record { answer = result; out = out.new } ≡ wrote i (put_of (manifest_bytes (manifest_in (lent_of tables.entry) m)) out.old) }
 {
-    let n = write_judged(segments, views, runs, borrows, ids, pool, m, out)?;
+    let n = write_judged(tables, m, out)?;
     Ok(InsertedTo::Entered(i, n))
 }
 
 // Tells what came of the insertion, and writes the manifest that the prefix entered, where it has room.
 fn write_inserted(
     lim: Limits,
-    segments: &[u64],
-    views: &[u64],
-    runs: &[u64],
-    borrows: &[u64],
-    ids: &[u64],
-    pool: &[u8],
+    tables: Tables,
     m: ManifestRow,
     len: usize,
     room: Fill,
@@ -82,22 +61,24 @@ fn write_inserted(
     out_pool: &[u8],
     out: &mut [u8],
 ) -> Result<InsertedTo, Refusal>
-    requires { l1_of lim (lent segments.now views.now runs.now borrows.now ids.now pool.now) m ≡ true }
-    ensures { record { answer = result; out = out.new } ≡ laid_to lim room (plus (manifest_fill (manifest_in (lent segments.now views.now runs.now borrows.now ids.now pool.now) m)) (new_fill len)) out.old (lent out_segments.now out_views.now out_runs.now out_borrows.now out_ids.now out_pool.now) laid }
+    requires { l1_of lim (lent_of tables) m ≡ true }
+    ensures { record { answer = result; out = out.new } ≡ laid_to lim room (plus (manifest_fill (manifest_in (lent_of tables.entry) m)) (new_fill len)) out.old (lent out_segments.now out_views.now out_runs.now out_borrows.now out_ids.now out_pool.now) laid }
 {
     match laid? {
         Inserted::Found(i) => Ok(InsertedTo::Found(i)),
         Inserted::Entered(i, row) => {
-            if lacks_room(lim, segments, views, runs, borrows, ids, pool, m, len, room) {
+            if lacks_room(lim, tables, m, len, room) {
                 return Err(Refusal::NoRoom);
             }
             write_entered(
-                out_segments,
-                out_views,
-                out_runs,
-                out_borrows,
-                out_ids,
-                out_pool,
+                Tables {
+                    segments: out_segments,
+                    views: out_views,
+                    runs: out_runs,
+                    borrows: out_borrows,
+                    ids: out_ids,
+                    pool: out_pool,
+                },
                 row,
                 i,
                 out,
@@ -109,12 +90,7 @@ fn write_inserted(
 // Inserts into the manifest of rows that are lawful. The result tables have room for any manifest within L1.
 fn insert_rows(
     lim: Limits,
-    segments: &[u64],
-    views: &[u64],
-    runs: &[u64],
-    borrows: &[u64],
-    ids: &[u64],
-    pool: &[u8],
+    tables: Tables,
     rows: Result<ManifestRow, Refusal>,
     prefix: &[u8],
     room: Fill,
@@ -128,18 +104,13 @@ fn insert_rows(
 ) -> Result<InsertedTo, Refusal>
     requires prefix_len_bound { length prefix.now ≤ lim.prefix }
     requires out_pool_value { fits lim.fill (room_of (lent out_segments.old out_views.old out_runs.old out_borrows.old out_ids.old out_pool.old)) ≡ true }
-    ensures { record { answer = result; out = out.new } ≡ inserted_in lim room prefix.now out.old (rows_in lim (lent segments.now views.now runs.now borrows.now ids.now pool.now) rows) }
+    ensures { record { answer = result; out = out.new } ≡ inserted_in lim room prefix.now out.old (rows_in lim (lent_of tables.entry) rows) }
 {
     let m = rows?;
-    lawful(lim, segments, views, runs, borrows, ids, pool, m).map_err(Refusal::Unlawful)?;
+    lawful(lim, tables, m).map_err(Refusal::Unlawful)?;
     let laid = insert_judged(
         lim,
-        segments,
-        views,
-        runs,
-        borrows,
-        ids,
-        pool,
+        tables,
         m,
         prefix,
         out_segments,
@@ -151,12 +122,7 @@ fn insert_rows(
     );
     write_inserted(
         lim,
-        segments,
-        views,
-        runs,
-        borrows,
-        ids,
-        pool,
+        tables,
         m,
         prefix.len(),
         room,
@@ -248,12 +214,14 @@ pub fn insert(
     let rows = rows_of(lim, s, segments, views, runs, borrows, ids);
     insert_rows(
         lim,
-        segments,
-        views,
-        runs,
-        borrows,
-        ids,
-        s,
+        Tables {
+            segments,
+            views,
+            runs,
+            borrows,
+            ids,
+            pool: s,
+        },
         rows,
         prefix,
         room,

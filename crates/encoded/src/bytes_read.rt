@@ -1,5 +1,6 @@
 // The manifest of some bytes, and reading.
 ghost use Rattle.std.specs.Prelude.{◌≡◌, true, [], ◌/◌};
+ghost use Rattle.records.specs.Decode.{lent_of};
 ghost use Rattle.records.specs.Fill.{fits};
 ghost use Rattle.manifest_rows.specs.Stored.{lent};
 ghost use Rattle.manifest_read.specs.Answer.{work_room};
@@ -13,7 +14,7 @@ use manifest_read::LONGEST;
 use manifest_rows::fill_manifest;
 use manifest_write::write_judged;
 use measure::{fits_in, measure};
-use records::{Fill, Limits, ManifestRow, Refusal};
+use records::{Fill, Limits, ManifestRow, Refusal, Tables};
 
 // Whether working tables of so many words have room for any manifest within L1.
 // inner
@@ -76,43 +77,33 @@ pub fn rows_of(
 // Writes the manifest of rows that keep L1, where it has room.
 fn write_within(
     lim: Limits,
-    segments: &[u64],
-    views: &[u64],
-    runs: &[u64],
-    borrows: &[u64],
-    ids: &[u64],
-    pool: &[u8],
+    tables: Tables,
     m: ManifestRow,
     room: Fill,
     out: &mut [u8],
 ) -> Result<usize, Refusal>
-    ensures { record { answer = result; out = out.new } ≡ within_of lim room out.old (lent segments.now views.now runs.now borrows.now ids.now pool.now) m }
+    ensures { record { answer = result; out = out.new } ≡ within_of lim room out.old (lent_of tables.entry) m }
 {
-    let f = measure(lim, segments, views, runs, borrows, ids, pool, m).ok_or(Refusal::Unlawful(1))?;
+    let f = measure(lim, tables, m).ok_or(Refusal::Unlawful(1))?;
     if no_room(lim, room, f) {
         return Err(Refusal::NoRoom);
     }
-    write_judged(segments, views, runs, borrows, ids, pool, m, out)
+    write_judged(tables, m, out)
 }
 
 // Writes the manifest of rows that are lawful, where it has room.
 fn write_rows(
     lim: Limits,
-    segments: &[u64],
-    views: &[u64],
-    runs: &[u64],
-    borrows: &[u64],
-    ids: &[u64],
-    pool: &[u8],
+    tables: Tables,
     rows: Result<ManifestRow, Refusal>,
     room: Fill,
     out: &mut [u8],
 ) -> Result<usize, Refusal>
-    ensures { record { answer = result; out = out.new } ≡ on (refused_with out.old) (given_of lim room out.old) (rows_in lim (lent segments.now views.now runs.now borrows.now ids.now pool.now) rows) }
+    ensures { record { answer = result; out = out.new } ≡ on (refused_with out.old) (given_of lim room out.old) (rows_in lim (lent_of tables.entry) rows) }
 {
     let m = rows?;
-    lawful(lim, segments, views, runs, borrows, ids, pool, m).map_err(Refusal::Unlawful)?;
-    write_within(lim, segments, views, runs, borrows, ids, pool, m, room, out)
+    lawful(lim, tables, m).map_err(Refusal::Unlawful)?;
+    write_within(lim, tables, m, room, out)
 }
 
 // Reads a manifest and writes it anew, in the shortest forms.
@@ -143,5 +134,18 @@ pub fn read(
         return Err(Refusal::NoRoom);
     }
     let rows = rows_of(lim, s, segments, views, runs, borrows, ids);
-    write_rows(lim, segments, views, runs, borrows, ids, s, rows, room, out)
+    write_rows(
+        lim,
+        Tables {
+            segments,
+            views,
+            runs,
+            borrows,
+            ids,
+            pool: s,
+        },
+        rows,
+        room,
+        out,
+    )
 }

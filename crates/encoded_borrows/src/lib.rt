@@ -5,6 +5,7 @@
 mod clone_bytes;
 
 ghost use Rattle.std.specs.Prelude.{◌≡◌, true, [], ◌/◌, ◌≤◌, length};
+ghost use Rattle.records.specs.Decode.{lent_of};
 ghost use Rattle.records.specs.Fill.{fits};
 ghost use Rattle.copy.specs.Copy.{room_of};
 ghost use Rattle.borrows.specs.Clone.{uuids_of};
@@ -20,7 +21,7 @@ use encoded::{has_results, has_tables, rows_of};
 use ids::Uuid;
 use lawful::lawful;
 use manifest_read::LONGEST;
-use records::{Fill, Limits, ManifestRow, Refusal};
+use records::{Fill, Limits, ManifestRow, Refusal, Tables};
 use tables::held;
 
 // ---- owned ids
@@ -52,19 +53,26 @@ pub fn owned(
         return Err(Refusal::NoRoom);
     }
     let m = rows_of(lim, s, segments, views, runs, borrows, ids)?;
-    owned_ssts(lim, segments, views, runs, borrows, ids, s, m, out)
+    owned_ssts(
+        lim,
+        Tables {
+            segments,
+            views,
+            runs,
+            borrows,
+            ids,
+            pool: s,
+        },
+        m,
+        out,
+    )
 }
 
 // Clones the manifest of rows that are lawful. Where the fresh UUIDs are too few, the clone is laid with others in their place, to see how
 // long it is: the words of the borrows are more than enough, and any UUID is as long as any other.
 fn clone_rows(
     lim: Limits,
-    segments: &[u64],
-    views: &[u64],
-    runs: &[u64],
-    borrows: &[u64],
-    ids: &[u64],
-    pool: &[u8],
+    tables: Tables,
     rows: Result<ManifestRow, Refusal>,
     path: &[u8],
     checkpoint: Uuid,
@@ -78,22 +86,17 @@ fn clone_rows(
     out_pool: &mut [u8],
     out: &mut [u8],
 ) -> Result<usize, Refusal>
-    requires borrows_in_bounds { lim.fill.borrows ≤ length borrows.now / 9 }
+    requires borrows_in_bounds { lim.fill.borrows ≤ length tables.borrows.now / 9 }
     requires out_pool_value { fits lim.fill (room_of (lent out_segments.old out_views.old out_runs.old out_borrows.old out_ids.old out_pool.old)) ≡ true }
-    ensures { record { answer = result; out = out.new } ≡ cloned_on lim room out.old path.now checkpoint (uuids_of fresh.now) (rows_in lim (lent segments.now views.now runs.now borrows.now ids.now pool.now) rows) }
+    ensures { record { answer = result; out = out.new } ≡ cloned_on lim room out.old path.now checkpoint (uuids_of fresh.now) (rows_in lim (lent_of tables.entry) rows) }
 {
     let m = rows?;
-    lawful(lim, segments, views, runs, borrows, ids, pool, m).map_err(Refusal::Unlawful)?;
-    let n = held(m.external_dbs, borrows.len() / 9);
+    lawful(lim, tables, m).map_err(Refusal::Unlawful)?;
+    let n = held(m.external_dbs, tables.borrows.len() / 9);
     if n < fresh.len() / 2 {
         return clone_with(
             lim,
-            segments,
-            views,
-            runs,
-            borrows,
-            ids,
-            pool,
+            tables,
             m,
             path,
             checkpoint,
@@ -111,16 +114,11 @@ fn clone_rows(
     }
     clone_with(
         lim,
-        segments,
-        views,
-        runs,
-        borrows,
-        ids,
-        pool,
+        tables,
         m,
         path,
         checkpoint,
-        borrows,
+        tables.borrows,
         true,
         room,
         out_segments,
@@ -182,12 +180,14 @@ pub fn clone(
     let rows = rows_of(lim, s, segments, views, runs, borrows, ids);
     clone_rows(
         lim,
-        segments,
-        views,
-        runs,
-        borrows,
-        ids,
-        s,
+        Tables {
+            segments,
+            views,
+            runs,
+            borrows,
+            ids,
+            pool: s,
+        },
         rows,
         path,
         checkpoint,

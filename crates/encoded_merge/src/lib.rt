@@ -12,7 +12,7 @@ ghost use Rattle.encoded_merge.specs.Merge.{merge_to};
 use both_read::read_both;
 use list_merged::merge_within;
 use merge::Side;
-use records::{Fill, Limits, ManifestRow, Refusal};
+use records::{Fill, Limits, ManifestRow, Refusal, Tables};
 
 // The segment list of the writer's manifest, merged with the compactor's, or of both, as the compactor merges them.
 pub fn merge(
@@ -57,12 +57,14 @@ pub fn merge(
     merge_within(
         side,
         lim,
-        both_segments,
-        both_views,
-        both_runs,
-        both_borrows,
-        both_ids,
-        both_pool,
+        Tables {
+            segments: both_segments,
+            views: both_views,
+            runs: both_runs,
+            borrows: both_borrows,
+            ids: both_ids,
+            pool: both_pool,
+        },
         w,
         c,
         room,

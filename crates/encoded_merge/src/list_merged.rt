@@ -1,26 +1,20 @@
 // The merged list of segments, as a manifest in the tables of the result.
 ghost use Rattle.std.specs.Prelude.{◌≡◌, ◌*◌, ◌≤◌, length};
-ghost use Rattle.records.specs.Decode.{manifest_in};
+ghost use Rattle.records.specs.Decode.{manifest_in, lent_of};
 ghost use Rattle.lawful.specs.Judge.{judged_of};
 ghost use Rattle.merge.specs.Answer.{list_room};
-ghost use Rattle.manifest_rows.specs.Stored.{lent};
 ghost use Rattle.encoded_merge.specs.Merge.{merged_to};
 
 use encoded::least;
 use manifest_write::write_segments;
 use merge::{Side, merge_judged};
-use records::{Fill, Limits, ManifestRow, Refusal};
+use records::{Fill, Limits, ManifestRow, Refusal, Tables};
 
 // Merges two lawful manifests into the result tables, and writes the list.
 fn merge_into(
     side: Side,
     lim: Limits,
-    segments: &[u64],
-    views: &[u64],
-    runs: &[u64],
-    borrows: &[u64],
-    ids: &[u64],
-    pool: &[u8],
+    tables: Tables,
     writer: ManifestRow,
     compactor: ManifestRow,
     out_segments: &mut [u64],
@@ -29,18 +23,13 @@ fn merge_into(
     out_pool: &mut [u8],
     out: &mut [u8],
 ) -> Result<usize, Refusal>
-    requires { (judged_of lim (lent segments.now views.now runs.now borrows.now ids.now pool.now) writer ≡ Ok tt) × (judged_of lim (lent segments.now views.now runs.now borrows.now ids.now pool.now) compactor ≡ Ok tt) }
-    ensures { record { answer = result; out = out.new } ≡ merged_to side lim (list_room (record { segments = out_segments.old; views = out_views.old; runs = out_runs.old; pool = out_pool.old })) out.old (manifest_in (lent segments.now views.now runs.now borrows.now ids.now pool.now) writer).segments (manifest_in (lent segments.now views.now runs.now borrows.now ids.now pool.now) compactor).segments }
+    requires { (judged_of lim (lent_of tables) writer ≡ Ok tt) × (judged_of lim (lent_of tables) compactor ≡ Ok tt) }
+    ensures { record { answer = result; out = out.new } ≡ merged_to side lim (list_room (record { segments = out_segments.old; views = out_views.old; runs = out_runs.old; pool = out_pool.old })) out.old (manifest_in (lent_of tables.entry) writer).segments (manifest_in (lent_of tables.entry) compactor).segments }
 {
     let w = merge_judged(
         side,
         lim,
-        segments,
-        views,
-        runs,
-        borrows,
-        ids,
-        pool,
+        tables,
         writer,
         compactor,
         out_segments,
@@ -55,12 +44,7 @@ fn merge_into(
 pub fn merge_within(
     side: Side,
     lim: Limits,
-    segments: &[u64],
-    views: &[u64],
-    runs: &[u64],
-    borrows: &[u64],
-    ids: &[u64],
-    pool: &[u8],
+    tables: Tables,
     writer: ManifestRow,
     compactor: ManifestRow,
     room: Fill,
@@ -70,9 +54,9 @@ pub fn merge_within(
     out_pool: &mut [u8],
     out: &mut [u8],
 ) -> Result<usize, Refusal>
-    requires writer_value { (judged_of lim (lent segments.now views.now runs.now borrows.now ids.now pool.now) writer ≡ Ok tt) × (judged_of lim (lent segments.now views.now runs.now borrows.now ids.now pool.now) compactor ≡ Ok tt) }
+    requires writer_value { (judged_of lim (lent_of tables) writer ≡ Ok tt) × (judged_of lim (lent_of tables) compactor ≡ Ok tt) }
     requires segments_in_bounds { (lim.fill.segments * 12 ≤ length out_segments.old) × (lim.fill.views * 16 ≤ length out_views.old) × (lim.fill.runs * 3 ≤ length out_runs.old) × (lim.fill.bytes ≤ length out_pool.old) }
-    ensures { record { answer = result; out = out.new } ≡ merged_to side lim room out.old (manifest_in (lent segments.now views.now runs.now borrows.now ids.now pool.now) writer).segments (manifest_in (lent segments.now views.now runs.now borrows.now ids.now pool.now) compactor).segments }
+    ensures { record { answer = result; out = out.new } ≡ merged_to side lim room out.old (manifest_in (lent_of tables.entry) writer).segments (manifest_in (lent_of tables.entry) compactor).segments }
 {
     let a = least(lim.fill.segments, room.segments) * 12;
     let b = least(lim.fill.views, room.views) * 16;
@@ -81,12 +65,7 @@ pub fn merge_within(
     merge_into(
         side,
         lim,
-        segments,
-        views,
-        runs,
-        borrows,
-        ids,
-        pool,
+        tables,
         writer,
         compactor,
         &mut out_segments[..a],

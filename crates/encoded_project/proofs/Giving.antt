@@ -67,7 +67,7 @@ module _ (lim : Limits) (out : List ℕ) (o : Lent) (c : Config) (places : ℕ) 
   result_told m = rw (listed m) (go (no_room lim (room_of o) (manifest_fill m)))
     where
       go : (b : Bool)
-          → told out (pick b (refused NoRoom o) (record { answer = Ok ((names_count c.filter), (manifest_row m)); out = laid_over o (layout m) })).answer (pick b (refused NoRoom o) (record { answer = Ok ((names_count c.filter), (manifest_row m)); out = laid_over o (layout m) })).out
+          → told out (pick b (refused NoRoom o) (record { answer = Ok (names_count c.filter, manifest_row m); out = laid_over o (layout m) })).answer (pick b (refused NoRoom o) (record { answer = Ok (names_count c.filter, manifest_row m); out = laid_over o (layout m) })).out
           ≡ pick b (refused_to out NoRoom) (wrote (names_count c.filter) (put_of (manifest_bytes m) out))
       go true = refl
       go false = ap (λ (n : Manifest). wrote (names_count c.filter) (put_of (manifest_bytes n) out)) (decode_over m o)

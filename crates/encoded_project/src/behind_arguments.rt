@@ -16,7 +16,7 @@ use lawful::lawful;
 use manifest_rows::fill_manifest;
 use measure::{fits_in, left_of};
 use project_ranges::{ProjectionConfig, config_over};
-use records::{Fill, Limits, ManifestRow, Refusal};
+use records::{Fill, Limits, ManifestRow, Refusal, Tables};
 use tables::put;
 
 // Judges rows, of which there are `f`, then copies what is lawful behind what fills `c`.
@@ -44,15 +44,29 @@ fn keep_at(
     if !fits_in(f, lim.fill) {
         return Err(Refusal::Unlawful(1));
     }
-    lawful(lim, segments, views, runs, borrows, ids, s, m).map_err(Refusal::Unlawful)?;
+    lawful(
+        lim,
+        Tables {
+            segments,
+            views,
+            runs,
+            borrows,
+            ids,
+            pool: s,
+        },
+        m,
+    )
+    .map_err(Refusal::Unlawful)?;
     copy_at(
         lim,
-        segments,
-        views,
-        runs,
-        borrows,
-        ids,
-        s,
+        Tables {
+            segments,
+            views,
+            runs,
+            borrows,
+            ids,
+            pool: s,
+        },
         m,
         in_segments,
         in_views,

@@ -1,7 +1,7 @@
 // The projection of rows that were read: laid in the tables of the result, and written.
 ghost use Rattle.std.specs.Prelude.{◌≡◌, suc, ◌-◌, ◌*◌, ◌/◌, ◌≤◌, leb, length};
 ghost use Rattle.keys.specs.Pick.{pick};
-ghost use Rattle.records.specs.Decode.{manifest_in};
+ghost use Rattle.records.specs.Decode.{manifest_in, lent_of};
 ghost use Rattle.records.specs.Fill.{bytes};
 ghost use Rattle.lawful.specs.Judge.{judged_of};
 ghost use Rattle.copy.specs.Copy.{room_of};
@@ -15,23 +15,18 @@ use encoded::least;
 use manifest_write::write_judged;
 use project::projected_judged;
 use project_ranges::ProjectionConfig;
-use records::{Fill, Limits, ManifestRow, Refusal};
+use records::{Fill, Limits, ManifestRow, Refusal, Tables};
 
-// Writes the result.
+// Writes the result: how many segments the mask names, and how many bytes the result has.
 fn write_to(
-    segments: &[u64],
-    views: &[u64],
-    runs: &[u64],
-    borrows: &[u64],
-    ids: &[u64],
-    pool: &[u8],
+    tables: Tables,
     m: ManifestRow,
     names: usize,
     out: &mut [u8],
 ) -> Result<(usize, usize), Refusal>
-    ensures { record { answer = result; out = out.new } ≡ wrote names (put_of (manifest_bytes (manifest_in (lent segments.now views.now runs.now borrows.now ids.now pool.now) m)) out.old) }
+    ensures { record { answer = result; out = out.new } ≡ wrote names (put_of (manifest_bytes (manifest_in (lent_of tables.entry) m)) out.old) }
 {
-    let n = write_judged(segments, views, runs, borrows, ids, pool, m, out)?;
+    let n = write_judged(tables, m, out)?;
     Ok((names, n))
 }
 
@@ -62,12 +57,14 @@ fn project_into(
 {
     let (names, row) = projected_judged(
         lim,
-        in_segments,
-        in_views,
-        in_runs,
-        in_borrows,
-        in_ids,
-        in_pool,
+        Tables {
+            segments: in_segments,
+            views: in_views,
+            runs: in_runs,
+            borrows: in_borrows,
+            ids: in_ids,
+            pool: in_pool,
+        },
         m,
         c,
         own,
@@ -79,7 +76,19 @@ fn project_into(
         ids,
         pool,
     )?;
-    write_to(segments, views, runs, borrows, ids, pool, row, names, out)
+    write_to(
+        Tables {
+            segments,
+            views,
+            runs,
+            borrows,
+            ids,
+            pool,
+        },
+        row,
+        names,
+        out,
+    )
 }
 
 // How many of `rows` own ranges count: one for the unsegmented tree and one for each of so many segments.

@@ -45,6 +45,6 @@ source_into c o t b p u (refused r) = record { answer = Err r; out = o; rows = t
 
 -- what reading all n sources leaves: all are lawful and stand in the tables, or one is refused
 abbrev pub Gathered : Limits → List ℕ → List ℕ → List ℕ → List ℕ → List ℕ → ℕ → Result Unit Refusal → Lent → List ℕ → Type 0
-Gathered lim s ends paths path_ends checkpoints n (Ok tt) l t =
+Gathered lim s ends paths path_ends checkpoints n (Ok _) l t =
     (sources_judged lim l t n ≡ Ok tt) × (sources_in l t n ≡ sources_of lim s ends paths path_ends checkpoints n) × ((refuse : Refusal → Outcome) (given : Outcome) → unless_unread refuse lim s ends n given ≡ given)
 Gathered lim s ends paths path_ends checkpoints n (Err x) l t = (refuse : Refusal → Outcome) (given : Outcome) → unless_unread refuse lim s ends n given ≡ refuse x

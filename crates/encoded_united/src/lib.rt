@@ -4,7 +4,7 @@
 
 ghost use Rattle.std.specs.Prelude.{◌≡◌, true, false, ◌+◌, ◌-◌, ◌*◌, ◌/◌, ◌≤◌, ltb, length, replicate};
 ghost use Rattle.records.specs.Fill.{fits};
-ghost use Rattle.records.specs.Decode.{manifest_in};
+ghost use Rattle.records.specs.Decode.{manifest_in, lent_of};
 ghost use Rattle.copy.specs.Copy.{room_of};
 ghost use Rattle.borrows.specs.Clone.{uuids_of};
 ghost use Rattle.unite_sources.specs.Rows.{sources_in};
@@ -18,7 +18,7 @@ ghost use Rattle.encoded_united.specs.Steps.{lent_words};
 
 use encoded::least;
 use encoded_borrows::write_clone;
-use records::{Fill, Limits, ManifestRow, Refusal};
+use records::{Fill, Limits, ManifestRow, Refusal, Tables};
 use tables::put;
 use unite_all::union_judged;
 
@@ -50,20 +50,15 @@ fn lend_fresh(fresh: &[u64], lent_fresh: &mut [u64])
 
 // Writes the union that was laid, or says why not: its length is judged before the number of fresh UUIDs, of which `given` words were lent.
 fn write_union(
-    segments: &[u64],
-    views: &[u64],
-    runs: &[u64],
-    borrows: &[u64],
-    ids: &[u64],
-    pool: &[u8],
+    tables: Tables,
     m: ManifestRow,
     given: usize,
     out: &mut [u8],
 ) -> Result<usize, Refusal>
-    ensures { record { answer = result; out = out.new } ≡ fresh_put (ltb (given / 2) m.external_dbs.count) (manifest_bytes (manifest_in (lent segments.now views.now runs.now borrows.now ids.now pool.now) m)) out.old }
+    ensures { record { answer = result; out = out.new } ≡ fresh_put (ltb (given / 2) m.external_dbs.count) (manifest_bytes (manifest_in (lent_of tables.entry) m)) out.old }
 {
     let few = given / 2 < m.external_dbs.count;
-    write_clone(segments, views, runs, borrows, ids, pool, m, few, out)
+    write_clone(tables, m, few, out)
 }
 
 // Unites sources that were read, with lists of its own, into tables that leave just the room there is, and writes the union.
@@ -99,12 +94,14 @@ fn union_into(
         lim,
         rows,
         n,
-        all_segments,
-        all_views,
-        all_runs,
-        all_borrows,
-        all_ids,
-        all_pool,
+        Tables {
+            segments: all_segments,
+            views: all_views,
+            runs: all_runs,
+            borrows: all_borrows,
+            ids: all_ids,
+            pool: all_pool,
+        },
         lent_fresh,
         &mut prefixes,
         &mut owned,
@@ -118,12 +115,14 @@ fn union_into(
         to_pool,
     )?;
     write_union(
-        to_segments,
-        to_views,
-        to_runs,
-        to_borrows,
-        to_ids,
-        to_pool,
+        Tables {
+            segments: to_segments,
+            views: to_views,
+            runs: to_runs,
+            borrows: to_borrows,
+            ids: to_ids,
+            pool: to_pool,
+        },
         m,
         fresh.len(),
         out,

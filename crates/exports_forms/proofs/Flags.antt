@@ -19,7 +19,7 @@ module _ (flag : ℕ) where
   pub filter_all : (keeps mask : ℕ) → flag ≡ 0 → None ≡ filter_arg flag keeps mask
   filter_all keeps mask h = rw (eq-eqb flag 0 h)
 
-  pub filter_only : (keeps mask : ℕ) → (flag ≡ 0 → ⊥) → Some ((is_on keeps), mask) ≡ filter_arg flag keeps mask
+  pub filter_only : (keeps mask : ℕ) → (flag ≡ 0 → ⊥) → Some (is_on keeps, mask) ≡ filter_arg flag keeps mask
   filter_only keeps mask h = rw (ne_eqb flag 0 h)
 
 module _ (f r : List ℕ) where

@@ -28,7 +28,7 @@ global_arg flag r = pick (is_on flag) (Some (range_arg r)) None
 
 -- "The filter is a flag for the unsegmented tree and a 64-bit mask"
 abbrev pub filter_arg : ℕ → ℕ → ℕ → Option (Bool × ℕ)
-filter_arg flag keeps mask = pick (is_on flag) (Some ((is_on keeps), mask)) None
+filter_arg flag keeps mask = pick (is_on flag) (Some (is_on keeps, mask)) None
 
 -- five numbers: whether there is a global range, whether there is a filter, its flag and its mask, whether there is a table of own ranges
 abbrev pub config_arg : List ℕ → List ℕ → ProjectionConfig

@@ -5,6 +5,7 @@
 mod head_forms;
 
 ghost use Rattle.std.specs.Prelude.{◌≡◌};
+ghost use Rattle.records.specs.Decode.{lent_of};
 ghost use Rattle.records.specs.Limits.{limits01};
 ghost use Rattle.segments.specs.Lookup.{looked, looked_of};
 ghost use Rattle.segments.specs.Select.{selected};
@@ -20,7 +21,7 @@ use exports_forms::{
     Answer, is_odd, looked_answer, range_arg, refused_answer, selected_answer, written_answer,
 };
 use head_forms::{copied_answer, head_at, inserted_answer};
-use records::{Refusal, limits_01};
+use records::{Refusal, Tables, limits_01};
 
 // What a call answers that lays a manifest into tables: `tree`, `rest` and `tick` are its own value where there is one.
 #[repr(C)]
@@ -39,19 +40,14 @@ pub fn tables_lookup(
     tree: &[u64; 12],
     rest: &[u64; 12],
     tick: i64,
-    segments: &[u64],
-    views: &[u64],
-    runs: &[u64],
-    borrows: &[u64],
-    ids: &[u64],
-    pool: &[u8],
+    tables: Tables,
     prefix: &[u8],
 ) -> Answer
-    ensures { result ≡ told (looked (looked_of limits01 (lent segments.now views.now runs.now borrows.now ids.now pool.now) (head_at tree.now rest.now tick) prefix.now)) }
+    ensures { result ≡ told (looked (looked_of limits01 (lent_of tables.entry) (head_at tree.now rest.now tick) prefix.now)) }
 {
     let lim = limits_01();
     let m = head_at(tree, rest, tick);
-    let x = segments::tree_for_segment(lim, segments, views, runs, borrows, ids, pool, m, prefix);
+    let x = segments::tree_for_segment(lim, tables, m, prefix);
     looked_answer(x)
 }
 
@@ -60,16 +56,11 @@ pub fn tables_select(
     tree: &[u64; 12],
     rest: &[u64; 12],
     tick: i64,
-    segments: &[u64],
-    views: &[u64],
-    runs: &[u64],
-    borrows: &[u64],
-    ids: &[u64],
-    pool: &[u8],
+    tables: Tables,
     args: &[u8],
     range: &[u64; 6],
 ) -> Answer
-    ensures { result ≡ told (selected (select_in range.now args.now (lent segments.now views.now runs.now borrows.now ids.now pool.now) (head_at tree.now rest.now tick))) }
+    ensures { result ≡ told (selected (select_in range.now args.now (lent_of tables.entry) (head_at tree.now rest.now tick))) }
 {
     if is_odd(range) {
         return refused_answer(Refusal::OverLimit);
@@ -77,7 +68,7 @@ pub fn tables_select(
     let lim = limits_01();
     let m = head_at(tree, rest, tick);
     let r = range_arg(range);
-    let x = segments::select_segments(lim, segments, views, runs, borrows, ids, pool, m, args, r);
+    let x = segments::select_segments(lim, tables, m, args, r);
     selected_answer(x)
 }
 
@@ -86,19 +77,14 @@ pub fn tables_write(
     tree: &[u64; 12],
     rest: &[u64; 12],
     tick: i64,
-    segments: &[u64],
-    views: &[u64],
-    runs: &[u64],
-    borrows: &[u64],
-    ids: &[u64],
-    pool: &[u8],
+    tables: Tables,
     out: &mut [u8],
 ) -> Answer
-    ensures { record { answer = result; out = out.new } ≡ wrote_reply (write_of limits01 (lent segments.now views.now runs.now borrows.now ids.now pool.now) (head_at tree.now rest.now tick) out.old) }
+    ensures { record { answer = result; out = out.new } ≡ wrote_reply (write_of limits01 (lent_of tables.entry) (head_at tree.now rest.now tick) out.old) }
 {
     let lim = limits_01();
     let m = head_at(tree, rest, tick);
-    let w = manifest_write::write(lim, segments, views, runs, borrows, ids, pool, m, out);
+    let w = manifest_write::write(lim, tables, m, out);
     written_answer(w)
 }
 
@@ -144,12 +130,7 @@ pub fn tables_insert(
     tree: &[u64; 12],
     rest: &[u64; 12],
     tick: i64,
-    segments: &[u64],
-    views: &[u64],
-    runs: &[u64],
-    borrows: &[u64],
-    ids: &[u64],
-    pool: &[u8],
+    tables: Tables,
     prefix: &[u8],
     out_segments: &mut [u64],
     out_views: &mut [u64],
@@ -158,18 +139,13 @@ pub fn tables_insert(
     out_ids: &mut [u64],
     out_pool: &mut [u8],
 ) -> Laid
-    ensures { record { laid = result; out = lent out_segments.new out_views.new out_runs.new out_borrows.new out_ids.new out_pool.new } ≡ insert_reply (insert_of limits01 (lent segments.now views.now runs.now borrows.now ids.now pool.now) (head_at tree.now rest.now tick) prefix.now (lent out_segments.old out_views.old out_runs.old out_borrows.old out_ids.old out_pool.old)) }
+    ensures { record { laid = result; out = lent out_segments.new out_views.new out_runs.new out_borrows.new out_ids.new out_pool.new } ≡ insert_reply (insert_of limits01 (lent_of tables.entry) (head_at tree.now rest.now tick) prefix.now (lent out_segments.old out_views.old out_runs.old out_borrows.old out_ids.old out_pool.old)) }
 {
     let lim = limits_01();
     let m = head_at(tree, rest, tick);
     let x = insert::maybe_insert_tree(
         lim,
-        segments,
-        views,
-        runs,
-        borrows,
-        ids,
-        pool,
+        tables,
         m,
         prefix,
         out_segments,

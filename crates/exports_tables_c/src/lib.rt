@@ -16,6 +16,7 @@ ghost use Rattle.exports_tables.specs.Calls.{select_in, read_reply, insert_reply
 
 use exports_forms::Answer;
 use exports_tables::Laid;
+use records::Tables;
 
 #[unsafe(no_mangle)]
 pub extern "C" fn tables_lookup(
@@ -33,7 +34,18 @@ pub extern "C" fn tables_lookup(
     ensures { result ≡ told (looked (looked_of limits01 (lent segments.now views.now runs.now borrows.now ids.now pool.now) (head_at tree.now rest.now tick) prefix.now)) }
 {
     exports_tables::tables_lookup(
-        tree, rest, tick, segments, views, runs, borrows, ids, pool, prefix,
+        tree,
+        rest,
+        tick,
+        Tables {
+            segments,
+            views,
+            runs,
+            borrows,
+            ids,
+            pool,
+        },
+        prefix,
     )
 }
 
@@ -54,7 +66,19 @@ pub extern "C" fn tables_select(
     ensures { result ≡ told (selected (select_in range.now args.now (lent segments.now views.now runs.now borrows.now ids.now pool.now) (head_at tree.now rest.now tick))) }
 {
     exports_tables::tables_select(
-        tree, rest, tick, segments, views, runs, borrows, ids, pool, args, range,
+        tree,
+        rest,
+        tick,
+        Tables {
+            segments,
+            views,
+            runs,
+            borrows,
+            ids,
+            pool,
+        },
+        args,
+        range,
     )
 }
 
@@ -74,7 +98,18 @@ pub extern "C" fn tables_write(
     ensures { record { answer = result; out = out.new } ≡ wrote_reply (write_of limits01 (lent segments.now views.now runs.now borrows.now ids.now pool.now) (head_at tree.now rest.now tick) out.old) }
 {
     exports_tables::tables_write(
-        tree, rest, tick, segments, views, runs, borrows, ids, pool, out,
+        tree,
+        rest,
+        tick,
+        Tables {
+            segments,
+            views,
+            runs,
+            borrows,
+            ids,
+            pool,
+        },
+        out,
     )
 }
 
@@ -136,12 +171,14 @@ pub extern "C" fn tables_insert(
         tree,
         rest,
         tick,
-        segments,
-        views,
-        runs,
-        borrows,
-        ids,
-        pool,
+        Tables {
+            segments,
+            views,
+            runs,
+            borrows,
+            ids,
+            pool,
+        },
         prefix,
         out_segments,
         out_views,

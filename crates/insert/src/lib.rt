@@ -5,7 +5,7 @@ mod prefix_nests;
 mod with_one_more;
 
 ghost use Rattle.std.specs.Prelude.{◌≡◌, true, ◌/◌, ◌≤◌, ◌<◌, length};
-ghost use Rattle.records.specs.Decode.{manifest_in};
+ghost use Rattle.records.specs.Decode.{manifest_in, lent_of};
 ghost use Rattle.records.specs.Fill.{manifest_fill};
 ghost use Rattle.measure.specs.Measure.{l1_of};
 ghost use Rattle.measure.specs.Walk.{add_of};
@@ -19,7 +19,7 @@ ghost use Rattle.insert.specs.Insert.{new_fill, entered_of, laid_entry, insert_o
 use lawful::lawful;
 use measure::{add, fits_in, measure};
 use prefix_nests::{check_segment_prefix_antichain, is_held};
-use records::{Fill, Limits, ManifestRow, Refusal};
+use records::{Fill, Limits, ManifestRow, Refusal, Tables};
 use segments::find_place;
 use with_one_more::put_entered;
 
@@ -35,21 +35,11 @@ pub enum Inserted {
 
 // What a manifest that keeps L1 fills with an empty segment more, of a prefix of `len` bytes.
 // inner
-pub fn filled_with(
-    lim: Limits,
-    segments: &[u64],
-    views: &[u64],
-    runs: &[u64],
-    borrows: &[u64],
-    ids: &[u64],
-    pool: &[u8],
-    m: ManifestRow,
-    len: usize,
-) -> Option<Fill>
-    requires { l1_of lim (record { segments = segments.now; views = views.now; runs = runs.now; borrows = borrows.now; ids = ids.now; pool = pool.now }) m ≡ true }
-    ensures { result ≡ add_of lim.fill (manifest_fill (manifest_in (record { segments = segments.now; views = views.now; runs = runs.now; borrows = borrows.now; ids = ids.now; pool = pool.now }) m)) (new_fill len) }
+pub fn filled_with(lim: Limits, tables: Tables, m: ManifestRow, len: usize) -> Option<Fill>
+    requires { l1_of lim (lent_of tables) m ≡ true }
+    ensures { result ≡ add_of lim.fill (manifest_fill (manifest_in (lent_of tables.entry) m)) (new_fill len) }
 {
-    let f = measure(lim, segments, views, runs, borrows, ids, pool, m)?;
+    let f = measure(lim, tables, m)?;
     let more = Fill {
         segments: 1,
         views: 0,
@@ -64,12 +54,7 @@ pub fn filled_with(
 // Enters an empty tree at the place of a prefix that is neither held nor nested.
 fn enter(
     lim: Limits,
-    segments: &[u64],
-    views: &[u64],
-    runs: &[u64],
-    borrows: &[u64],
-    ids: &[u64],
-    pool: &[u8],
+    tables: Tables,
     m: ManifestRow,
     prefix: &[u8],
     place: usize,
@@ -80,22 +65,11 @@ fn enter(
     out_ids: &mut [u64],
     out_pool: &mut [u8],
 ) -> Result<Inserted, Refusal>
-    requires m_value { l1_of lim (record { segments = segments.now; views = views.now; runs = runs.now; borrows = borrows.now; ids = ids.now; pool = pool.now }) m ≡ true }
-    requires place_value { place ≡ place_of (prefixes_in segments.now pool.now m.segments) prefix.now }
-    ensures { record { answer = result; out = record { segments = out_segments.new; views = out_views.new; runs = out_runs.new; borrows = out_borrows.new; ids = out_ids.new; pool = out_pool.new } } ≡ laid_entry (record { segments = out_segments.old; views = out_views.old; runs = out_runs.old; borrows = out_borrows.old; ids = out_ids.old; pool = out_pool.old }) (entered_of lim (room_of (record { segments = out_segments.old; views = out_views.old; runs = out_runs.old; borrows = out_borrows.old; ids = out_ids.old; pool = out_pool.old })) (manifest_in (record { segments = segments.now; views = views.now; runs = runs.now; borrows = borrows.now; ids = ids.now; pool = pool.now }) m) prefix.now) }
+    requires m_value { l1_of lim (lent_of tables) m ≡ true }
+    requires place_value { place ≡ place_of (prefixes_in tables.segments.now tables.pool.now m.segments) prefix.now }
+    ensures { record { answer = result; out = record { segments = out_segments.new; views = out_views.new; runs = out_runs.new; borrows = out_borrows.new; ids = out_ids.new; pool = out_pool.new } } ≡ laid_entry (record { segments = out_segments.old; views = out_views.old; runs = out_runs.old; borrows = out_borrows.old; ids = out_ids.old; pool = out_pool.old }) (entered_of lim (room_of (record { segments = out_segments.old; views = out_views.old; runs = out_runs.old; borrows = out_borrows.old; ids = out_ids.old; pool = out_pool.old })) (manifest_in (lent_of tables.entry) m) prefix.now) }
 {
-    let result = filled_with(
-        lim,
-        segments,
-        views,
-        runs,
-        borrows,
-        ids,
-        pool,
-        m,
-        prefix.len(),
-    )
-    .ok_or(Refusal::NoRoom)?;
+    let result = filled_with(lim, tables, m, prefix.len()).ok_or(Refusal::NoRoom)?;
     let room = Fill {
         segments: out_segments.len() / 12,
         views: out_views.len() / 16,
@@ -108,12 +82,7 @@ fn enter(
         return Err(Refusal::NoRoom);
     }
     let row = put_entered(
-        segments,
-        views,
-        runs,
-        borrows,
-        ids,
-        pool,
+        tables,
         m,
         place,
         prefix,
@@ -131,12 +100,7 @@ fn enter(
 // inner
 pub fn insert_judged(
     lim: Limits,
-    segments: &[u64],
-    views: &[u64],
-    runs: &[u64],
-    borrows: &[u64],
-    ids: &[u64],
-    pool: &[u8],
+    tables: Tables,
     m: ManifestRow,
     prefix: &[u8],
     out_segments: &mut [u64],
@@ -146,25 +110,20 @@ pub fn insert_judged(
     out_ids: &mut [u64],
     out_pool: &mut [u8],
 ) -> Result<Inserted, Refusal>
-    requires m_value { judged_of lim (record { segments = segments.now; views = views.now; runs = runs.now; borrows = borrows.now; ids = ids.now; pool = pool.now }) m ≡ Ok tt }
+    requires m_value { judged_of lim (lent_of tables) m ≡ Ok tt }
     requires prefix_len_bound { length prefix.now ≤ lim.prefix }
-    ensures { record { answer = result; out = record { segments = out_segments.new; views = out_views.new; runs = out_runs.new; borrows = out_borrows.new; ids = out_ids.new; pool = out_pool.new } } ≡ laid_entry (record { segments = out_segments.old; views = out_views.old; runs = out_runs.old; borrows = out_borrows.old; ids = out_ids.old; pool = out_pool.old }) (inserted_of lim (room_of (record { segments = out_segments.old; views = out_views.old; runs = out_runs.old; borrows = out_borrows.old; ids = out_ids.old; pool = out_pool.old })) (manifest_in (record { segments = segments.now; views = views.now; runs = runs.now; borrows = borrows.now; ids = ids.now; pool = pool.now }) m) prefix.now) }
+    ensures { record { answer = result; out = record { segments = out_segments.new; views = out_views.new; runs = out_runs.new; borrows = out_borrows.new; ids = out_ids.new; pool = out_pool.new } } ≡ laid_entry (record { segments = out_segments.old; views = out_views.old; runs = out_runs.old; borrows = out_borrows.old; ids = out_ids.old; pool = out_pool.old }) (inserted_of lim (room_of (record { segments = out_segments.old; views = out_views.old; runs = out_runs.old; borrows = out_borrows.old; ids = out_ids.old; pool = out_pool.old })) (manifest_in (lent_of tables.entry) m) prefix.now) }
 {
     let w = m.segments;
-    let place = find_place(segments, pool, w, prefix);
-    if is_held(segments, pool, w, prefix, place) {
+    let place = find_place(tables.segments, tables.pool, w, prefix);
+    if is_held(tables.segments, tables.pool, w, prefix, place) {
         return Ok(Inserted::Found(place));
     }
-    match check_segment_prefix_antichain(segments, pool, w, prefix, place) {
+    match check_segment_prefix_antichain(tables.segments, tables.pool, w, prefix, place) {
         Some(i) => Err(Refusal::Nests(i)),
         None => enter(
             lim,
-            segments,
-            views,
-            runs,
-            borrows,
-            ids,
-            pool,
+            tables,
             m,
             prefix,
             place,
@@ -181,12 +140,7 @@ pub fn insert_judged(
 // The prefix's segment: found where it is held, else entered with an empty tree at its sorted place.
 pub fn maybe_insert_tree(
     lim: Limits,
-    segments: &[u64],
-    views: &[u64],
-    runs: &[u64],
-    borrows: &[u64],
-    ids: &[u64],
-    pool: &[u8],
+    tables: Tables,
     m: ManifestRow,
     prefix: &[u8],
     out_segments: &mut [u64],
@@ -196,21 +150,16 @@ pub fn maybe_insert_tree(
     out_ids: &mut [u64],
     out_pool: &mut [u8],
 ) -> Result<Inserted, Refusal>
-    ensures { record { answer = result; out = record { segments = out_segments.new; views = out_views.new; runs = out_runs.new; borrows = out_borrows.new; ids = out_ids.new; pool = out_pool.new } } ≡ insert_of lim (record { segments = segments.now; views = views.now; runs = runs.now; borrows = borrows.now; ids = ids.now; pool = pool.now }) m prefix.now (record { segments = out_segments.old; views = out_views.old; runs = out_runs.old; borrows = out_borrows.old; ids = out_ids.old; pool = out_pool.old }) }
+    ensures { record { answer = result; out = record { segments = out_segments.new; views = out_views.new; runs = out_runs.new; borrows = out_borrows.new; ids = out_ids.new; pool = out_pool.new } } ≡ insert_of lim (lent_of tables.entry) m prefix.now (record { segments = out_segments.old; views = out_views.old; runs = out_runs.old; borrows = out_borrows.old; ids = out_ids.old; pool = out_pool.old }) }
 {
     if lim.prefix < prefix.len() {
         return Err(Refusal::OverLimit);
     }
-    // A `match`: what `map_err` makes of a variant's name is not proved.
-    match lawful(lim, segments, views, runs, borrows, ids, pool, m) {
+    // A `match`: the proof answers each of its arms.
+    match lawful(lim, tables, m) {
         Ok(()) => insert_judged(
             lim,
-            segments,
-            views,
-            runs,
-            borrows,
-            ids,
-            pool,
+            tables,
             m,
             prefix,
             out_segments,

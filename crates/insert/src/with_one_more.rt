@@ -2,7 +2,7 @@
 ghost use Rattle.std.specs.Prelude.{◌≡◌, true, ◌++◌, ◌+◌, ◌*◌, ◌/◌, ◌≤◌, length};
 ghost use Rattle.tables.specs.Layout.{write, over, joined};
 ghost use Rattle.tables.specs.Window.{held_of};
-ghost use Rattle.records.specs.Decode.{tree_in, segments_in, manifest_in};
+ghost use Rattle.records.specs.Decode.{tree_in, segments_in, manifest_in, lent_of};
 ghost use Rattle.records.specs.Fill.{empty, plus, sum, tree_fill, segment_fill, fits, manifest_fill};
 ghost use Rattle.records.specs.Words.{segment_words};
 ghost use Rattle.records.specs.Layout.{tree_row, tree_runs_laid, tree_views_laid, tree_bytes, past_prefix, segment_row, segments_laid, segments_runs_laid, segments_views_laid, segment_bytes};
@@ -13,7 +13,7 @@ ghost use Rattle.insert.specs.Insert.{entered_at, laid_entry};
 
 use copy::{manifest_row, put_rest};
 use emit::{LaidTree, put_segment, put_segments, put_tree};
-use records::{Fill, ManifestRow, Place, SegmentRow, TreeRow};
+use records::{Fill, ManifestRow, Place, SegmentRow, Tables, TreeRow};
 use tables::{Window, held};
 
 // Appends an empty segment.
@@ -191,12 +191,7 @@ fn put_trees_with(
 
 // Lays the manifest with an empty segment at place `i` out at the front of the tables.
 pub fn put_entered(
-    segments: &[u64],
-    views: &[u64],
-    runs: &[u64],
-    borrows: &[u64],
-    ids: &[u64],
-    pool: &[u8],
+    tables: Tables,
     m: ManifestRow,
     i: usize,
     prefix: &[u8],
@@ -207,20 +202,20 @@ pub fn put_entered(
     out_ids: &mut [u64],
     out_pool: &mut [u8],
 ) -> ManifestRow
-    requires i_bound { i ≤ held_of m.segments (length segments.now / 12) }
-    requires out_pool_value { fits (manifest_fill (entered_at i prefix.now (manifest_in (record { segments = segments.now; views = views.now; runs = runs.now; borrows = borrows.now; ids = ids.now; pool = pool.now }) m))) (room_of (record { segments = out_segments.old; views = out_views.old; runs = out_runs.old; borrows = out_borrows.old; ids = out_ids.old; pool = out_pool.old })) ≡ true }
-    ensures { record { answer = Ok (Entered i result); out = record { segments = out_segments.new; views = out_views.new; runs = out_runs.new; borrows = out_borrows.new; ids = out_ids.new; pool = out_pool.new } } ≡ laid_entry (record { segments = out_segments.old; views = out_views.old; runs = out_runs.old; borrows = out_borrows.old; ids = out_ids.old; pool = out_pool.old }) (entered i (entered_at i prefix.now (manifest_in (record { segments = segments.now; views = views.now; runs = runs.now; borrows = borrows.now; ids = ids.now; pool = pool.now }) m))) }
+    requires i_bound { i ≤ held_of m.segments (length tables.segments.now / 12) }
+    requires out_pool_value { fits (manifest_fill (entered_at i prefix.now (manifest_in (lent_of tables) m))) (room_of (record { segments = out_segments.old; views = out_views.old; runs = out_runs.old; borrows = out_borrows.old; ids = out_ids.old; pool = out_pool.old })) ≡ true }
+    ensures { record { answer = Ok (Entered i result); out = record { segments = out_segments.new; views = out_views.new; runs = out_runs.new; borrows = out_borrows.new; ids = out_ids.new; pool = out_pool.new } } ≡ laid_entry (record { segments = out_segments.old; views = out_views.old; runs = out_runs.old; borrows = out_borrows.old; ids = out_ids.old; pool = out_pool.old }) (entered i (entered_at i prefix.now (manifest_in (lent_of tables.entry) m))) }
 {
     let b = m.external_dbs;
     let laid = put_trees_with(
         m.tree,
-        segments,
+        tables.segments,
         m.segments,
         i,
         prefix,
-        runs,
-        views,
-        pool,
+        tables.runs,
+        tables.views,
+        tables.pool,
         out_segments,
         out_runs,
         out_views,
@@ -229,14 +224,20 @@ pub fn put_entered(
     let at = laid.past;
     let name = put_rest(
         m.segment_extractor_name,
-        borrows,
+        tables.borrows,
         b,
-        ids,
-        pool,
+        tables.ids,
+        tables.pool,
         out_borrows,
         out_ids,
         out_pool,
         at,
     );
-    manifest_row(m, laid.tree, at.segments, name, held(b, borrows.len() / 9))
+    manifest_row(
+        m,
+        laid.tree,
+        at.segments,
+        name,
+        held(b, tables.borrows.len() / 9),
+    )
 }

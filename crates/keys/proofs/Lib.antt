@@ -12,3 +12,5 @@ pub mod Places
 pub mod Past
 pub mod Emptying
 pub mod Arms
+pub mod Parting
+pub mod Choices

@@ -61,7 +61,7 @@ pub fn is_less(a: &[u8], b: &[u8]) -> bool
     compare(a, b).is_lt()
 }
 
-// Trailing FF bytes are dropped, and the last byte that is left grows by one.
+// A prefix's successor: so many of its first bytes, the last of them one more; none where all are FF. Trailing FF bytes are dropped.
 #[tactic(auto, using(crate::proofs::Grows::grow))]
 pub fn successor_of(p: &[u8]) -> Option<usize>
     ensures { result ≡ successor_of p.now }

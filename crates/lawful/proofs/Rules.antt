@@ -78,6 +78,14 @@ module _ (runs views pool : List ℕ) (i : ℕ) (row : RunRow) (at : row ≡ run
 
 pub ruleset runs_by = (run_none, run_some)
 
+-- ---- prefixes that ascend
+pub near_rows : (segments pool : List ℕ) (w : Window) → ((i : ℕ) → Fits w8 (get_or pool i 0))
+    → (all_below (λ k. less_of (prefix_at segments pool (w.first + k)) (prefix_at segments pool (w.first + (k + 1)))) (held_of w (length segments / 12) - 1)
+    && all_below (λ j. all_below (λ i. not (begins_of (prefix_at segments pool (w.first + i)) (prefix_at segments pool (w.first + j))) && not (begins_of (prefix_at segments pool (w.first + j)) (prefix_at segments pool (w.first + i)))) j) (held_of w (length segments / 12)))
+    ≡ (all_below (λ k. less_of (prefix_at segments pool (w.first + k)) (prefix_at segments pool (w.first + (k + 1)))) (held_of w (length segments / 12) - 1)
+    && all_below (λ k. not (begins_of (prefix_at segments pool (w.first + k)) (prefix_at segments pool (w.first + (k + 1))))) (held_of w (length segments / 12) - 1))
+near_rows segments pool w b = sym (near_is_far (held_of w (length segments / 12)) (λ k. prefix_at segments pool (w.first + k)) (λ k. bytes_part _ _ (bytes_fit pool b)))
+
 -- ---- the manifest
 module _ (l : Lent) (m : ManifestRow) where
   pub l2_rows : l2_of (manifest_in l m) ≡ all_below (λ k. less_of (prefix_at l.segments l.pool (m.segments.first + k)) (prefix_at l.segments l.pool (m.segments.first + (k + 1)))) (held_of m.segments (length l.segments / 12) - 1)
@@ -88,14 +96,11 @@ module _ (l : Lent) (m : ManifestRow) where
   unfolding l3_of manifest_in segments_in segment_in
   l3_rows = pairs_up_to apart_of (λ k. segment_in l.runs l.views l.pool (segment_at l.segments (m.segments.first + k))) (held_of m.segments (length l.segments / 12))
 
-  pub l2_l3_rows :
-      ((i : ℕ) → Fits w8 (get_or l.pool i 0))
-      → (l2_of (manifest_in l m) && l3_of (manifest_in l m))
-      ≡ (all_below (λ k. less_of (prefix_at l.segments l.pool (m.segments.first + k)) (prefix_at l.segments l.pool (m.segments.first + (k + 1)))) (held_of m.segments (length l.segments / 12) - 1)
-      && all_below (λ k. not (begins_of (prefix_at l.segments l.pool (m.segments.first + k)) (prefix_at l.segments l.pool (m.segments.first + (k + 1))))) (held_of m.segments (length l.segments / 12) - 1))
-  l2_l3_rows b =
-      rw (l2_rows, l3_rows)
-      (sym (near_is_far (held_of m.segments (length l.segments / 12)) (λ k. prefix_at l.segments l.pool (m.segments.first + k)) (λ k. bytes_part _ _ (bytes_fit l.pool b))))
+  pub l2_l3_rows : (b : Bool)
+      → b ≡ (all_below (λ k. less_of (prefix_at l.segments l.pool (m.segments.first + k)) (prefix_at l.segments l.pool (m.segments.first + (k + 1)))) (held_of m.segments (length l.segments / 12) - 1)
+      && all_below (λ j. all_below (λ i. not (begins_of (prefix_at l.segments l.pool (m.segments.first + i)) (prefix_at l.segments l.pool (m.segments.first + j))) && not (begins_of (prefix_at l.segments l.pool (m.segments.first + j)) (prefix_at l.segments l.pool (m.segments.first + i)))) j) (held_of m.segments (length l.segments / 12)))
+      → b ≡ (l2_of (manifest_in l m) && l3_of (manifest_in l m))
+  l2_l3_rows b e = rw (l2_rows, l3_rows) e
 
   -- the prefixes of a manifest that keeps L2 and L3, as selection looks for them
   pub segments_apart : Bytes l.pool → l2_of (manifest_in l m) ≡ true → l3_of (manifest_in l m) ≡ true → Apart (held_of m.segments (length l.segments / 12)) (λ k. prefix_at l.segments l.pool (m.segments.first + k))

@@ -6,11 +6,12 @@ mod run_laws;
 mod view_laws;
 
 ghost use Rattle.std.specs.Prelude.{◌≡◌, ◌-◌};
+ghost use Rattle.records.specs.Decode.{lent_of};
 ghost use Rattle.lawful.specs.Judge.{judged_of};
 
 use measure::l1;
 pub use prefix_laws::{l2, l3};
-use records::{Limits, ManifestRow};
+use records::{Limits, ManifestRow, Tables};
 pub use run_laws::l5;
 pub use view_laws::{l4, last_bound, seen_range};
 
@@ -25,31 +26,22 @@ fn gaps(n: usize) -> usize
 }
 
 // The first rule that the manifest breaks. L1 comes first, so that all sums are known before any key is compared.
-pub fn lawful(
-    lim: Limits,
-    segments: &[u64],
-    views: &[u64],
-    runs: &[u64],
-    borrows: &[u64],
-    ids: &[u64],
-    pool: &[u8],
-    m: ManifestRow,
-) -> Result<(), usize>
-    ensures { result ≡ judged_of lim (record { segments = segments.now; views = views.now; runs = runs.now; borrows = borrows.now; ids = ids.now; pool = pool.now }) m }
+pub fn lawful(lim: Limits, tables: Tables, m: ManifestRow) -> Result<(), usize>
+    ensures { result ≡ judged_of lim (lent_of tables.entry) m }
 {
-    if !l1(lim, segments, views, runs, borrows, ids, pool, m) {
+    if !l1(lim, tables, m) {
         return Err(1);
     }
-    if !l2(segments, views, runs, borrows, ids, pool, m) {
+    if !l2(tables, m) {
         return Err(2);
     }
-    if !l3(segments, views, runs, borrows, ids, pool, m) {
+    if !l3(tables, m) {
         return Err(3);
     }
-    if !l4(segments, views, runs, borrows, ids, pool, m) {
+    if !l4(tables, m) {
         return Err(4);
     }
-    if !l5(segments, views, runs, borrows, ids, pool, m) {
+    if !l5(tables, m) {
         return Err(5);
     }
     Ok(())

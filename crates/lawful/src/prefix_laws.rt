@@ -3,14 +3,14 @@ ghost use Rattle.std.specs.Prelude.{◌≡◌, not, ◌&&◌, ◌+◌, ◌-◌, 
 ghost use Rattle.keys.specs.Key.{less_of};
 ghost use Rattle.keys.specs.Prefix.{begins_of};
 ghost use Rattle.tables.specs.Window.{held_of};
-ghost use Rattle.records.specs.Decode.{manifest_in};
+ghost use Rattle.records.specs.Decode.{manifest_in, lent_of};
 ghost use Rattle.measure.specs.Tests.{all_below};
 ghost use Rattle.lawful.specs.Law.{l2_of, l3_of};
 ghost use Rattle.lawful.specs.Steps.{prefix_at};
 
 use crate::gaps;
 use keys::{begins, is_less, part};
-use records::{ManifestRow, segment_at};
+use records::{ManifestRow, Tables, segment_at};
 use tables::{Window, held};
 
 // Whether the prefix of row `i` is below that of row `j`.
@@ -54,37 +54,26 @@ fn parts(segments: &[u64], pool: &[u8], w: Window) -> bool
 }
 
 // L2: each prefix is below the next.
-pub fn l2(
-    segments: &[u64],
-    views: &[u64],
-    runs: &[u64],
-    borrows: &[u64],
-    ids: &[u64],
-    pool: &[u8],
-    m: ManifestRow,
-) -> bool
-    ensures { result ≡ l2_of (manifest_in (record { segments = segments.now; views = views.now; runs = runs.now; borrows = borrows.now; ids = ids.now; pool = pool.now }) m) }
+pub fn l2(tables: Tables, m: ManifestRow) -> bool
+    ensures { result ≡ l2_of (manifest_in (lent_of tables.entry) m) }
 {
-    let w = m.segments;
-    ascends(segments, pool, w)
+    ascends(tables.segments, tables.pool, m.segments)
 }
 
-// L2 and L3: where prefixes ascend, what begins with one follows it at once, so that each need be held against the next
-// alone. L2 is therefore in the answer.
-pub fn l3(
-    segments: &[u64],
-    views: &[u64],
-    runs: &[u64],
-    borrows: &[u64],
-    ids: &[u64],
-    pool: &[u8],
-    m: ManifestRow,
-) -> bool
-    ensures { result ≡ (l2_of (manifest_in (record { segments = segments.now; views = views.now; runs = runs.now; borrows = borrows.now; ids = ids.now; pool = pool.now }) m) && l3_of (manifest_in (record { segments = segments.now; views = views.now; runs = runs.now; borrows = borrows.now; ids = ids.now; pool = pool.now }) m)) }
+// Whether the prefixes of the window ascend and none begins another: where they ascend, what begins with one follows it at once, so that
+// each need be held against the next alone.
+fn stand_apart(segments: &[u64], pool: &[u8], w: Window) -> bool
+    ensures { result ≡ (all_below (λ k. less_of (prefix_at segments.now pool.now (w.first + k)) (prefix_at segments.now pool.now (w.first + (k + 1)))) (held_of w (length segments.now / 12) - 1) && all_below (λ j. all_below (λ i. not (begins_of (prefix_at segments.now pool.now (w.first + i)) (prefix_at segments.now pool.now (w.first + j))) && not (begins_of (prefix_at segments.now pool.now (w.first + j)) (prefix_at segments.now pool.now (w.first + i)))) j) (held_of w (length segments.now / 12))) }
 {
-    let w = m.segments;
     if ascends(segments, pool, w) {
         return parts(segments, pool, w);
     }
     false
+}
+
+// L2 and L3. L2 is in the answer, since L3 is judged by it.
+pub fn l3(tables: Tables, m: ManifestRow) -> bool
+    ensures { result ≡ (l2_of (manifest_in (lent_of tables.entry) m) && l3_of (manifest_in (lent_of tables.entry) m)) }
+{
+    stand_apart(tables.segments, tables.pool, m.segments)
 }

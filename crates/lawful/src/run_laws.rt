@@ -1,14 +1,14 @@
 // L5: every run has a view, and each view of it stands before the next.
 ghost use Rattle.std.specs.Prelude.{◌≡◌, ◌+◌, ◌/◌, ◌<◌, length};
 ghost use Rattle.records.specs.Row.{view_at, run_at, segment_at};
-ghost use Rattle.records.specs.Decode.{bytes_in, last_in, view_in, views_in, run_in, runs_in, tree_in, segments_in, manifest_in};
+ghost use Rattle.records.specs.Decode.{bytes_in, last_in, view_in, views_in, run_in, runs_in, tree_in, segments_in, manifest_in, lent_of};
 ghost use Rattle.measure.specs.Tests.{all_of, chain};
 ghost use Rattle.measure.specs.Within.{tree_runs};
 ghost use Rattle.lawful.specs.Law.{last_below, follows, run_lawful, l5_of};
 
 use crate::gaps;
 use keys::{is_less, part};
-use records::{ManifestRow, Place, run_at, segment_at, view_at};
+use records::{ManifestRow, Place, Tables, run_at, segment_at, view_at};
 use tables::{Window, held};
 
 // Whether the last key, where it is known, is below `first`.
@@ -89,22 +89,14 @@ fn segments_follow(segments: &[u64], views: &[u64], runs: &[u64], pool: &[u8], w
 }
 
 // L5: every run of every tree is lawful.
-pub fn l5(
-    segments: &[u64],
-    views: &[u64],
-    runs: &[u64],
-    borrows: &[u64],
-    ids: &[u64],
-    pool: &[u8],
-    m: ManifestRow,
-) -> bool
-    ensures { result ≡ l5_of (manifest_in (record { segments = segments.now; views = views.now; runs = runs.now; borrows = borrows.now; ids = ids.now; pool = pool.now }) m) }
+pub fn l5(tables: Tables, m: ManifestRow) -> bool
+    ensures { result ≡ l5_of (manifest_in (lent_of tables.entry) m) }
 {
     let t = m.tree;
     let own = t.compacted;
     let w = m.segments;
-    if runs_follow(views, runs, pool, own) {
-        return segments_follow(segments, views, runs, pool, w);
+    if runs_follow(tables.views, tables.runs, tables.pool, own) {
+        return segments_follow(tables.segments, tables.views, tables.runs, tables.pool, w);
     }
     false
 }

@@ -1,14 +1,14 @@
 // L4: every view by itself.
 ghost use Rattle.std.specs.Prelude.{◌≡◌, ◌+◌, ◌/◌, ◌<◌, length};
 ghost use Rattle.records.specs.Row.{view_at, run_at, segment_at};
-ghost use Rattle.records.specs.Decode.{bytes_in, last_in, view_in, views_in, runs_in, tree_in, segments_in, manifest_in};
+ghost use Rattle.records.specs.Decode.{bytes_in, last_in, view_in, views_in, runs_in, tree_in, segments_in, manifest_in, lent_of};
 ghost use Rattle.measure.specs.Tests.{all_of};
 ghost use Rattle.measure.specs.Within.{run_views, tree_views};
 ghost use Rattle.lawful.specs.Law.{not_above, view_lawful, l4_of};
 ghost use Rattle.lawful.specs.Steps.{last_bound, seen_row, hidden_of};
 
 use keys::{Bound, Range, is_empty, is_less, meet, part};
-use records::{ManifestRow, Place, TreeRow, run_at, segment_at, view_at};
+use records::{ManifestRow, Place, Tables, TreeRow, run_at, segment_at, view_at};
 use tables::{Window, held};
 
 // Whether the first key is not above the last, where that is known.
@@ -128,21 +128,13 @@ fn segments_hold(segments: &[u64], views: &[u64], runs: &[u64], pool: &[u8], w: 
 }
 
 // L4: every view of every tree is lawful by itself.
-pub fn l4(
-    segments: &[u64],
-    views: &[u64],
-    runs: &[u64],
-    borrows: &[u64],
-    ids: &[u64],
-    pool: &[u8],
-    m: ManifestRow,
-) -> bool
-    ensures { result ≡ l4_of (manifest_in (record { segments = segments.now; views = views.now; runs = runs.now; borrows = borrows.now; ids = ids.now; pool = pool.now }) m) }
+pub fn l4(tables: Tables, m: ManifestRow) -> bool
+    ensures { result ≡ l4_of (manifest_in (lent_of tables.entry) m) }
 {
     let t = m.tree;
     let w = m.segments;
-    if tree_holds(views, runs, pool, t) {
-        return segments_hold(segments, views, runs, pool, w);
+    if tree_holds(tables.views, tables.runs, tables.pool, t) {
+        return segments_hold(tables.segments, tables.views, tables.runs, tables.pool, w);
     }
     false
 }

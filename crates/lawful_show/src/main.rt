@@ -11,7 +11,7 @@ mod lines;
 ghost use Rattle.std.specs.Prelude.{◌≤◌};
 
 use lines::{after, before, find, number};
-use records::{ManifestRow, Place, TreeRow, limits_01};
+use records::{ManifestRow, Place, Tables, TreeRow, limits_01};
 use std::io;
 use std::io::Read;
 use tables::{Window, ix};
@@ -147,16 +147,15 @@ fn rule(j: Result<(), usize>) -> u64 {
 fn judge(t: &[u64], m: ManifestRow) -> u64 {
     let pool =
         b"!\"#$%&'()*+,-./0123456789:;<=>?@ABCDEFGHIJKLMNOPQRSTUVWXYZ[\\]^_`abcdefghijklmnopqrstuvwxyz{|}~a\0";
-    rule(lawful::lawful(
-        limits_01(),
-        table(t, b's'),
-        table(t, b'v'),
-        table(t, b'r'),
-        table(t, b'b'),
-        table(t, b'i'),
+    let tables = Tables {
+        segments: table(t, b's'),
+        views: table(t, b'v'),
+        runs: table(t, b'r'),
+        borrows: table(t, b'b'),
+        ids: table(t, b'i'),
         pool,
-        m,
-    ))
+    };
+    rule(lawful::lawful(limits_01(), tables, m))
 }
 
 // A manifest's line, from its name on.

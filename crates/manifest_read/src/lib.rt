@@ -2,6 +2,7 @@
 #![tactic(auto)]
 
 ghost use Rattle.std.specs.Prelude.{◌≡◌, true};
+ghost use Rattle.records.specs.Decode.{lent_of};
 ghost use Rattle.records.specs.Fill.{fits};
 ghost use Rattle.copy.specs.Copy.{room_of, given_at, copy_at_of};
 ghost use Rattle.lawful.specs.Judge.{judged_of};
@@ -12,17 +13,12 @@ use copy::copy_at;
 use lawful::lawful;
 use manifest_rows::fill_manifest;
 use measure::fits_in;
-use records::{Fill, Limits, ManifestRow, Refusal};
+use records::{Fill, Limits, ManifestRow, Refusal, Tables};
 
 // Judges rows, then copies what is lawful behind what fills `c`.
 fn judged_copy(
     lim: Limits,
-    segments: &[u64],
-    views: &[u64],
-    runs: &[u64],
-    borrows: &[u64],
-    ids: &[u64],
-    pool: &[u8],
+    tables: Tables,
     m: ManifestRow,
     out_segments: &mut [u64],
     out_views: &mut [u64],
@@ -33,17 +29,12 @@ fn judged_copy(
     c: Fill,
 ) -> Result<ManifestRow, Refusal>
     requires { fits c (room_of (record { segments = out_segments.old; views = out_views.old; runs = out_runs.old; borrows = out_borrows.old; ids = out_ids.old; pool = out_pool.old })) ≡ true }
-    ensures { record { answer = result; out = record { segments = out_segments.new; views = out_views.new; runs = out_runs.new; borrows = out_borrows.new; ids = out_ids.new; pool = out_pool.new } } ≡ by_law (judged_of lim (record { segments = segments.now; views = views.now; runs = runs.now; borrows = borrows.now; ids = ids.now; pool = pool.now }) m) (copy_at_of lim c (record { segments = segments.now; views = views.now; runs = runs.now; borrows = borrows.now; ids = ids.now; pool = pool.now }) m (record { segments = out_segments.old; views = out_views.old; runs = out_runs.old; borrows = out_borrows.old; ids = out_ids.old; pool = out_pool.old })) (record { segments = out_segments.old; views = out_views.old; runs = out_runs.old; borrows = out_borrows.old; ids = out_ids.old; pool = out_pool.old }) }
+    ensures { record { answer = result; out = record { segments = out_segments.new; views = out_views.new; runs = out_runs.new; borrows = out_borrows.new; ids = out_ids.new; pool = out_pool.new } } ≡ by_law (judged_of lim (lent_of tables.entry) m) (copy_at_of lim c (lent_of tables.entry) m (record { segments = out_segments.old; views = out_views.old; runs = out_runs.old; borrows = out_borrows.old; ids = out_ids.old; pool = out_pool.old })) (record { segments = out_segments.old; views = out_views.old; runs = out_runs.old; borrows = out_borrows.old; ids = out_ids.old; pool = out_pool.old }) }
 {
-    lawful(lim, segments, views, runs, borrows, ids, pool, m).map_err(Refusal::Unlawful)?;
+    lawful(lim, tables, m).map_err(Refusal::Unlawful)?;
     copy_at(
         lim,
-        segments,
-        views,
-        runs,
-        borrows,
-        ids,
-        pool,
+        tables,
         m,
         out_segments,
         out_views,
@@ -83,12 +74,14 @@ fn read_rows(
     }
     judged_copy(
         lim,
-        segments,
-        views,
-        runs,
-        borrows,
-        ids,
-        s,
+        Tables {
+            segments,
+            views,
+            runs,
+            borrows,
+            ids,
+            pool: s,
+        },
         row,
         out_segments,
         out_views,

@@ -230,7 +230,8 @@ fn fill_second(
     Ok((row, fill, e))
 }
 
-// Reads a manifest: rows past the end of a working table are counted and not stored.
+// Reads a manifest: its row over the input, how many rows it has in each table, and the place after it. Rows past the end of a working table are
+// counted and not stored.
 // inner
 #[tactic(auto, using(crate::proofs::Manifests::manifest_reads))]
 pub fn fill_manifest(

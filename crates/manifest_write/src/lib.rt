@@ -6,7 +6,7 @@ mod rows_put;
 mod values_put;
 
 ghost use Rattle.std.specs.Prelude.{◌≡◌, [], ◌∷◌, ◌<◌};
-ghost use Rattle.records.specs.Decode.{tree_in, segments_in, name_in, manifest_in};
+ghost use Rattle.records.specs.Decode.{tree_in, segments_in, name_in, manifest_in, lent_of};
 ghost use Rattle.msgpack_put.specs.Write.{uint_bytes, int_bytes, flag_bytes, concat};
 ghost use Rattle.manifest_write.specs.Bytes.{tree_bytes, segments_bytes, name_bytes, manifest_bytes};
 ghost use Rattle.manifest_write.specs.Answer.{put_of, write_of};
@@ -14,7 +14,7 @@ ghost use Rattle.manifest_write.specs.Wrote.{Wrote};
 
 use lawful::lawful;
 use msgpack_put::{Head, sign_of};
-use records::{Limits, ManifestRow, Refusal};
+use records::{Limits, ManifestRow, Refusal, Tables};
 use rows_put::{add_borrows, add_segments, add_tree};
 use tables::Window;
 use values_put::{add_array, add_head, add_optional_bin};
@@ -51,23 +51,28 @@ fn add_numbers(m: ManifestRow, out: &mut [u8], at: usize) -> usize
 }
 
 // inner
-pub fn add_manifest(
-    m: ManifestRow,
-    segments: &[u64],
-    views: &[u64],
-    runs: &[u64],
-    borrows: &[u64],
-    ids: &[u64],
-    pool: &[u8],
-    out: &mut [u8],
-    at: usize,
-) -> usize
-    ensures { Wrote out.old at (manifest_bytes (manifest_in (record { segments = segments.now; views = views.now; runs = runs.now; borrows = borrows.now; ids = ids.now; pool = pool.now }) m)) result out.new }
+pub fn add_manifest(m: ManifestRow, tables: Tables, out: &mut [u8], at: usize) -> usize
+    ensures { Wrote out.old at (manifest_bytes (manifest_in (lent_of tables.entry) m)) result out.new }
 {
     let p0 = add_array(12, out, at);
-    let p1 = add_front(m, segments, views, runs, pool, out, p0);
+    let p1 = add_front(
+        m,
+        tables.segments,
+        tables.views,
+        tables.runs,
+        tables.pool,
+        out,
+        p0,
+    );
     let p2 = add_numbers(m, out, p1);
-    let p3 = add_borrows(borrows, m.external_dbs, ids, pool, out, p2);
+    let p3 = add_borrows(
+        tables.borrows,
+        m.external_dbs,
+        tables.ids,
+        tables.pool,
+        out,
+        p2,
+    );
     let p4 = add_head(Head::Uint(m.writer_epoch), out, p3);
     add_head(Head::Uint(m.compactor_epoch), out, p4)
 }
@@ -96,52 +101,23 @@ pub fn write_segments(
 
 // A manifest that the caller has judged.
 // inner
-pub fn write_judged(
-    segments: &[u64],
-    views: &[u64],
-    runs: &[u64],
-    borrows: &[u64],
-    ids: &[u64],
-    pool: &[u8],
-    m: ManifestRow,
-    out: &mut [u8],
-) -> Result<usize, Refusal>
-    ensures { record { answer = result; out = out.new } ≡ put_of (manifest_bytes (manifest_in (record { segments = segments.now; views = views.now; runs = runs.now; borrows = borrows.now; ids = ids.now; pool = pool.now }) m)) out.old }
+pub fn write_judged(tables: Tables, m: ManifestRow, out: &mut [u8]) -> Result<usize, Refusal>
+    ensures { record { answer = result; out = out.new } ≡ put_of (manifest_bytes (manifest_in (lent_of tables.entry) m)) out.old }
 {
     let mut nowhere = [0u8; 1];
-    let n = add_manifest(
-        m,
-        segments,
-        views,
-        runs,
-        borrows,
-        ids,
-        pool,
-        &mut nowhere,
-        0,
-    );
+    let n = add_manifest(m, tables, &mut nowhere, 0);
     if out.len() < n {
         return Err(Refusal::NoRoom);
     }
-    add_manifest(m, segments, views, runs, borrows, ids, pool, out, 0);
+    add_manifest(m, tables, out, 0);
     Ok(n)
 }
 
 // A manifest: 1 with the first broken rule, then 4 where the slice is too short, nothing changed by either.
 #[tactic(auto, unfolding(crate::specs::Answer::write_of))]
-pub fn write(
-    lim: Limits,
-    segments: &[u64],
-    views: &[u64],
-    runs: &[u64],
-    borrows: &[u64],
-    ids: &[u64],
-    pool: &[u8],
-    m: ManifestRow,
-    out: &mut [u8],
-) -> Result<usize, Refusal>
-    ensures { record { answer = result; out = out.new } ≡ write_of lim (record { segments = segments.now; views = views.now; runs = runs.now; borrows = borrows.now; ids = ids.now; pool = pool.now }) m out.old }
+pub fn write(lim: Limits, tables: Tables, m: ManifestRow, out: &mut [u8]) -> Result<usize, Refusal>
+    ensures { record { answer = result; out = out.new } ≡ write_of lim (lent_of tables.entry) m out.old }
 {
-    lawful(lim, segments, views, runs, borrows, ids, pool, m).map_err(Refusal::Unlawful)?;
-    write_judged(segments, views, runs, borrows, ids, pool, m, out)
+    lawful(lim, tables, m).map_err(Refusal::Unlawful)?;
+    write_judged(tables, m, out)
 }

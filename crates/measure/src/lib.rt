@@ -8,12 +8,13 @@ mod trees_walked;
 mod views_walked;
 
 ghost use Rattle.std.specs.Prelude.{◌≡◌, true, ◌+◌, ◌<◌};
+ghost use Rattle.records.specs.Decode.{lent_of};
 ghost use Rattle.records.specs.Fill.{plus, fits};
 ghost use Rattle.measure.specs.Measure.{l1_of, measured_of};
 ghost use Rattle.measure.specs.Walk.{left_of, add_of};
 
 use borrows_walked::{borrows_walk, name_step};
-use records::{Fill, Limits, ManifestRow};
+use records::{Fill, Limits, ManifestRow, Tables};
 pub use trees_walked::segment_row;
 use trees_walked::{segments_walk, tree_walk};
 
@@ -89,19 +90,10 @@ pub fn add(most: Fill, c: Fill, more: Fill) -> Option<Fill>
 
 // What the manifest fills, where it keeps L1.
 #[tactic(auto, using(crate::proofs::Walks::thens, crate::proofs::Whole::measured_by), unfolding(crate::specs::Walk::manifest_walk))]
-pub fn measure(
-    lim: Limits,
-    segments: &[u64],
-    views: &[u64],
-    runs: &[u64],
-    borrows: &[u64],
-    ids: &[u64],
-    pool: &[u8],
-    m: ManifestRow,
-) -> Option<Fill>
-    ensures { result ≡ measured_of lim (record { segments = segments.now; views = views.now; runs = runs.now; borrows = borrows.now; ids = ids.now; pool = pool.now }) m }
+pub fn measure(lim: Limits, tables: Tables, m: ManifestRow) -> Option<Fill>
+    ensures { result ≡ measured_of lim (lent_of tables.entry) m }
 {
-    let n = pool.len();
+    let n = tables.pool.len();
     let none = Fill {
         segments: 0,
         views: 0,
@@ -110,25 +102,24 @@ pub fn measure(
         ids: 0,
         bytes: 0,
     };
-    let c = tree_walk(lim, views, runs, n, m.tree, none)?;
-    let d = segments_walk(lim, views, runs, segments, n, m.segments, c)?;
+    let c = tree_walk(lim, tables.views, tables.runs, n, m.tree, none)?;
+    let d = segments_walk(
+        lim,
+        tables.views,
+        tables.runs,
+        tables.segments,
+        n,
+        m.segments,
+        c,
+    )?;
     let e = name_step(lim, n, m.segment_extractor_name, d)?;
-    borrows_walk(lim, ids, borrows, n, m.external_dbs, e)
+    borrows_walk(lim, tables.ids, tables.borrows, n, m.external_dbs, e)
 }
 
 // Whether the manifest keeps L1.
 #[tactic(auto, using(crate::proofs::Whole::l1s))]
-pub fn l1(
-    lim: Limits,
-    segments: &[u64],
-    views: &[u64],
-    runs: &[u64],
-    borrows: &[u64],
-    ids: &[u64],
-    pool: &[u8],
-    m: ManifestRow,
-) -> bool
-    ensures { result ≡ l1_of lim (record { segments = segments.now; views = views.now; runs = runs.now; borrows = borrows.now; ids = ids.now; pool = pool.now }) m }
+pub fn l1(lim: Limits, tables: Tables, m: ManifestRow) -> bool
+    ensures { result ≡ l1_of lim (lent_of tables.entry) m }
 {
-    measure(lim, segments, views, runs, borrows, ids, pool, m).is_some()
+    measure(lim, tables, m).is_some()
 }

@@ -7,7 +7,7 @@ mod merge_steps;
 
 ghost use Rattle.std.specs.Prelude.{◌≡◌, true, ◌/◌};
 ghost use Rattle.keys.specs.Key.{less_of};
-ghost use Rattle.records.specs.Decode.{segments_in, manifest_in};
+ghost use Rattle.records.specs.Decode.{segments_in, manifest_in, lent_of};
 ghost use Rattle.measure.specs.Tests.{all_of, chain};
 ghost use Rattle.lawful.specs.Judge.{judged_of};
 ghost use Rattle.segments.specs.Prefixes.{prefixes_in};
@@ -20,7 +20,7 @@ use measure::fits_in;
 use merge_faults::own_fault;
 use merge_laid::{measure_merged, put_merged};
 pub use merge_steps::merge_writer_and_compactor;
-use records::{Fill, Limits, ManifestRow, Place, Refusal, SegmentRow};
+use records::{Fill, Limits, ManifestRow, Place, Refusal, SegmentRow, Tables};
 use tables::Window;
 
 // Whose manifest is merged in.
@@ -126,12 +126,7 @@ fn give(
 pub fn merge_judged(
     side: Side,
     lim: Limits,
-    segments: &[u64],
-    views: &[u64],
-    runs: &[u64],
-    borrows: &[u64],
-    ids: &[u64],
-    pool: &[u8],
+    tables: Tables,
     writer: ManifestRow,
     compactor: ManifestRow,
     out_segments: &mut [u64],
@@ -139,20 +134,28 @@ pub fn merge_judged(
     out_runs: &mut [u64],
     out_pool: &mut [u8],
 ) -> Result<Window, Refusal>
-    requires { (judged_of lim (record { segments = segments.now; views = views.now; runs = runs.now; borrows = borrows.now; ids = ids.now; pool = pool.now }) writer ≡ Ok tt) × (judged_of lim (record { segments = segments.now; views = views.now; runs = runs.now; borrows = borrows.now; ids = ids.now; pool = pool.now }) compactor ≡ Ok tt) }
-    ensures { record { answer = result; out = record { segments = out_segments.new; views = out_views.new; runs = out_runs.new; pool = out_pool.new } } ≡ given_by side lim (manifest_in (record { segments = segments.now; views = views.now; runs = runs.now; borrows = borrows.now; ids = ids.now; pool = pool.now }) writer).segments (manifest_in (record { segments = segments.now; views = views.now; runs = runs.now; borrows = borrows.now; ids = ids.now; pool = pool.now }) compactor).segments (record { segments = out_segments.old; views = out_views.old; runs = out_runs.old; pool = out_pool.old }) }
+    requires { (judged_of lim (lent_of tables) writer ≡ Ok tt) × (judged_of lim (lent_of tables) compactor ≡ Ok tt) }
+    ensures { record { answer = result; out = record { segments = out_segments.new; views = out_views.new; runs = out_runs.new; pool = out_pool.new } } ≡ given_by side lim (manifest_in (lent_of tables.entry) writer).segments (manifest_in (lent_of tables.entry) compactor).segments (record { segments = out_segments.old; views = out_views.old; runs = out_runs.old; pool = out_pool.old }) }
 {
     let w = writer.segments;
     let c = compactor.segments;
-    match own_fault(side, segments, views, runs, pool, w, c) {
+    match own_fault(
+        side,
+        tables.segments,
+        tables.views,
+        tables.runs,
+        tables.pool,
+        w,
+        c,
+    ) {
         Some(x) => Err(x),
         None => give(
             side,
             lim,
-            segments,
-            views,
-            runs,
-            pool,
+            tables.segments,
+            tables.views,
+            tables.runs,
+            tables.pool,
             w,
             c,
             out_segments,
@@ -167,12 +170,7 @@ pub fn merge_judged(
 fn merge_segments(
     side: Side,
     lim: Limits,
-    segments: &[u64],
-    views: &[u64],
-    runs: &[u64],
-    borrows: &[u64],
-    ids: &[u64],
-    pool: &[u8],
+    tables: Tables,
     writer: ManifestRow,
     compactor: ManifestRow,
     out_segments: &mut [u64],
@@ -180,25 +178,20 @@ fn merge_segments(
     out_runs: &mut [u64],
     out_pool: &mut [u8],
 ) -> Result<Window, Refusal>
-    ensures { record { answer = result; out = record { segments = out_segments.new; views = out_views.new; runs = out_runs.new; pool = out_pool.new } } ≡ merge_of side lim (record { segments = segments.now; views = views.now; runs = runs.now; borrows = borrows.now; ids = ids.now; pool = pool.now }) writer compactor (record { segments = out_segments.old; views = out_views.old; runs = out_runs.old; pool = out_pool.old }) }
+    ensures { record { answer = result; out = record { segments = out_segments.new; views = out_views.new; runs = out_runs.new; pool = out_pool.new } } ≡ merge_of side lim (lent_of tables.entry) writer compactor (record { segments = out_segments.old; views = out_views.old; runs = out_runs.old; pool = out_pool.old }) }
 {
-    // Two `match`es: what `map_err` makes of a variant's name is not proved.
-    let a = lawful(lim, segments, views, runs, borrows, ids, pool, writer);
+    // Two `match`es: the proof answers each of their arms.
+    let a = lawful(lim, tables, writer);
     match a {
         Err(rule) => Err(Refusal::Unlawful(rule)),
         Ok(()) => {
-            let b = lawful(lim, segments, views, runs, borrows, ids, pool, compactor);
+            let b = lawful(lim, tables, compactor);
             match b {
                 Err(rule) => Err(Refusal::Unlawful(rule)),
                 Ok(()) => merge_judged(
                     side,
                     lim,
-                    segments,
-                    views,
-                    runs,
-                    borrows,
-                    ids,
-                    pool,
+                    tables,
                     writer,
                     compactor,
                     out_segments,
@@ -211,15 +204,10 @@ fn merge_segments(
     }
 }
 
-// Every writer prefix, merged with the compactor's tree or an empty one, or nothing changed.
+// Every writer prefix, merged with the compactor's tree or an empty one, or nothing changed. This and the next keep the original's names.
 pub fn merge_segments_from_writer(
     lim: Limits,
-    segments: &[u64],
-    views: &[u64],
-    runs: &[u64],
-    borrows: &[u64],
-    ids: &[u64],
-    pool: &[u8],
+    tables: Tables,
     writer: ManifestRow,
     compactor: ManifestRow,
     out_segments: &mut [u64],
@@ -227,17 +215,12 @@ pub fn merge_segments_from_writer(
     out_runs: &mut [u64],
     out_pool: &mut [u8],
 ) -> Result<Window, Refusal>
-    ensures { record { answer = result; out = record { segments = out_segments.new; views = out_views.new; runs = out_runs.new; pool = out_pool.new } } ≡ merge_of Writer lim (record { segments = segments.now; views = views.now; runs = runs.now; borrows = borrows.now; ids = ids.now; pool = pool.now }) writer compactor (record { segments = out_segments.old; views = out_views.old; runs = out_runs.old; pool = out_pool.old }) }
+    ensures { record { answer = result; out = record { segments = out_segments.new; views = out_views.new; runs = out_runs.new; pool = out_pool.new } } ≡ merge_of Writer lim (lent_of tables.entry) writer compactor (record { segments = out_segments.old; views = out_views.old; runs = out_runs.old; pool = out_pool.old }) }
 {
     merge_segments(
         Side::Writer,
         lim,
-        segments,
-        views,
-        runs,
-        borrows,
-        ids,
-        pool,
+        tables,
         writer,
         compactor,
         out_segments,
@@ -250,12 +233,7 @@ pub fn merge_segments_from_writer(
 // The prefixes of either side, merged, without those whose result is empty, or nothing changed.
 pub fn merge_segments_from_compactor(
     lim: Limits,
-    segments: &[u64],
-    views: &[u64],
-    runs: &[u64],
-    borrows: &[u64],
-    ids: &[u64],
-    pool: &[u8],
+    tables: Tables,
     writer: ManifestRow,
     compactor: ManifestRow,
     out_segments: &mut [u64],
@@ -263,17 +241,12 @@ pub fn merge_segments_from_compactor(
     out_runs: &mut [u64],
     out_pool: &mut [u8],
 ) -> Result<Window, Refusal>
-    ensures { record { answer = result; out = record { segments = out_segments.new; views = out_views.new; runs = out_runs.new; pool = out_pool.new } } ≡ merge_of Compactor lim (record { segments = segments.now; views = views.now; runs = runs.now; borrows = borrows.now; ids = ids.now; pool = pool.now }) writer compactor (record { segments = out_segments.old; views = out_views.old; runs = out_runs.old; pool = out_pool.old }) }
+    ensures { record { answer = result; out = record { segments = out_segments.new; views = out_views.new; runs = out_runs.new; pool = out_pool.new } } ≡ merge_of Compactor lim (lent_of tables.entry) writer compactor (record { segments = out_segments.old; views = out_views.old; runs = out_runs.old; pool = out_pool.old }) }
 {
     merge_segments(
         Side::Compactor,
         lim,
-        segments,
-        views,
-        runs,
-        borrows,
-        ids,
-        pool,
+        tables,
         writer,
         compactor,
         out_segments,

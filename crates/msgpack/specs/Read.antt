@@ -29,8 +29,8 @@ int_by at head.Cut = Err at
 int_by at head.Never = Err at
 int_by at (head.Nil p) = Err at
 int_by at (head.Flag b p) = Err at
-int_by at (head.Uint x p) = pick (ltb x (2 ^ 63)) (Ok ((pos x), p)) (Err at)
-int_by at (head.Minus m p) = pick (ltb m (2 ^ 63)) (Ok ((negsuc m), p)) (Err at)
+int_by at (head.Uint x p) = pick (ltb x (2 ^ 63)) (Ok (pos x, p)) (Err at)
+int_by at (head.Minus m p) = pick (ltb m (2 ^ 63)) (Ok (negsuc m, p)) (Err at)
 int_by at (head.Bin f n p) = Err at
 int_by at (head.Other p) = Err at
 int_by at (head.Array n p) = Err at
@@ -144,4 +144,4 @@ on_optional None none some = some
 
 -- "an id that is not 16 bytes: at the bin": the two halves of a bin of 16 bytes
 unfoldable pub id_at : List ℕ → ℕ → Result (ℕ × ℕ × ℕ) ℕ
-id_at s at = on_bin Err (bin_at s at) λ f n p. pick (eqb n 16) (Ok ((be (take 8 (drop f s))), (be (take 8 (drop (f + 8) s))), p)) (Err at)
+id_at s at = on_bin Err (bin_at s at) λ f n p. pick (eqb n 16) (Ok (be (take 8 (drop f s)), be (take 8 (drop (f + 8) s)), p)) (Err at)

@@ -48,6 +48,7 @@ pub fn flag_at(s: &[u8], at: usize) -> Result<(bool, usize), usize>
     }
 }
 
+// A bin: the first place and the length of its bytes, which stay where they are.
 pub fn bin_at(s: &[u8], at: usize) -> Result<(usize, usize, usize), usize>
     ensures { result ≡ bin_at s.now at }
 {
@@ -57,6 +58,7 @@ pub fn bin_at(s: &[u8], at: usize) -> Result<(usize, usize, usize), usize>
     }
 }
 
+// The halves of 16 bytes, the high one first.
 pub fn id_at(s: &[u8], at: usize) -> Result<(u64, u64, usize), usize>
     ensures { result ≡ id_at s.now at }
 {
@@ -68,7 +70,8 @@ pub fn id_at(s: &[u8], at: usize) -> Result<(u64, u64, usize), usize>
     }
 }
 
-// An array of at least so many elements: a record has one for each of its fields, and may have more.
+// An array of at least so many elements: a record has one for each of its fields, and may have more. It gives the count of the elements and the
+// place of the first.
 pub fn group_at(s: &[u8], at: usize, least: u64) -> Result<(u64, usize), usize>
     ensures { result ≡ group_at s.now at least }
 {
@@ -84,6 +87,7 @@ pub fn list_at(s: &[u8], at: usize) -> Result<(u64, usize), usize>
     group_at(s, at, 0)
 }
 
+// The place after a nil; none where something else stands, or nothing whole.
 pub fn optional_at(s: &[u8], at: usize) -> Option<usize>
     ensures { result ≡ optional_at s.now at }
 {

@@ -1,4 +1,5 @@
-// Values skipped, and whether some bytes are one whole value.
+// Values skipped, and whether some bytes are one whole value; the answer is the place after what was skipped, or the start of the first innermost
+// bad value.
 ghost use Rattle.std.specs.Prelude.{◌≡◌, ◌<◌};
 ghost use Rattle.msgpack.specs.Skip.{many_of, value_of, rest_at, whole_of};
 

@@ -20,7 +20,7 @@ pub enum Head {
     Bin(u64),
 }
 
-// A signed number.
+// The head of a signed number.
 // inner
 pub fn sign_of(x: i64) -> Head
     ensures { result ≡ sign_of x }
@@ -32,7 +32,7 @@ pub fn sign_of(x: i64) -> Head
     }
 }
 
-// ---- the shortest form: each kind has first bytes and limits of its own, and one form over a table of them would be no plainer
+// ---- the shortest form; each kind has first bytes and limits of its own, and one form over a table of them would be no plainer
 
 // A first byte, the width of the number after it, and that number.
 #[derive(Clone, Copy)]
@@ -99,6 +99,7 @@ fn bin_form(n: u64) -> Tagged
     Tagged(0xc6, 4, n)
 }
 
+// The shortest form of what a head stands for.
 #[tactic(auto, unfolding(keys::specs::BigEndian::be_bytes))]
 fn form(h: Head) -> Tagged
     ensures { (head_bytes h ≡ tagged_bytes result) × (result.1 ≤ 8) }
@@ -114,7 +115,7 @@ fn form(h: Head) -> Tagged
     }
 }
 
-// How many bytes are written.
+// How many bytes `put_head` writes.
 pub fn head_len(h: Head) -> usize
     ensures { result ≡ length (head_bytes h) }
 {

@@ -250,7 +250,7 @@ module _ (lim : Limits) (names places : ℕ) (x : Config) (m : Manifest) (o : Le
   unfolding projected_to projected_of filled_to
   given_copy t g = rw (sym h ∙ t, ← e) (g ∙ go (no_room lim (room_of o) (manifest_fill m)))
     where
-      go : (r : Bool) → pick r (refused NoRoom o) (record { answer = Ok (names, (manifest_row m)); out = laid_over o (layout m) }) ≡ pick (r || false) (refused NoRoom o) (record { answer = Ok (names, (manifest_row m)); out = laid_over o (layout m) })
+      go : (r : Bool) → pick r (refused NoRoom o) (record { answer = Ok (names, manifest_row m); out = laid_over o (layout m) }) ≡ pick (r || false) (refused NoRoom o) (record { answer = Ok (names, manifest_row m); out = laid_over o (layout m) })
       go true = refl
       go false = refl
 
@@ -259,7 +259,7 @@ module _ (lim : Limits) (names places : ℕ) (x : Config) (m : Manifest) (o : Le
   given_narrowed t g = rw (sym h ∙ t, ← e) (g ∙ go (with_used (narrowed x m)) (no_room lim (room_of o) (manifest_fill (with_used (narrowed x m)))) (ltb places (manifest_fill (with_used (narrowed x m))).views))
     where
       go : (z : Manifest) (r s : Bool)
-          → pick s (refused NoRoom o) (pick r (refused NoRoom o) (record { answer = Ok (names, (manifest_row z)); out = laid_over o (layout z) })) ≡ pick (r || s) (refused NoRoom o) (record { answer = Ok (names, (manifest_row z)); out = laid_over o (layout z) })
+          → pick s (refused NoRoom o) (pick r (refused NoRoom o) (record { answer = Ok (names, manifest_row z); out = laid_over o (layout z) })) ≡ pick (r || s) (refused NoRoom o) (record { answer = Ok (names, manifest_row z); out = laid_over o (layout z) })
       go z true true = refl
       go z true false = refl
       go z false true = refl

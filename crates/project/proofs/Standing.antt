@@ -117,8 +117,8 @@ module _ (lim : Limits) (c : Config) (places : ℕ) (o : Lent) (n : ℕ) (row : 
   to_done z e = go (no_room lim (room_of o) (manifest_fill z)) (used_short c places z) e
     where
       go : (a b : Bool)
-          → (pick (a || b) (refused NoRoom o) (record { answer = Ok ((names_count c.filter), (manifest_row z)); out = laid_over o (layout z) })).answer ≡ Ok (n, row)
-          → (a ≡ false) × Stands (names_count c.filter) z n row (pick (a || b) (refused NoRoom o) (record { answer = Ok ((names_count c.filter), (manifest_row z)); out = laid_over o (layout z) })).out
+          → (pick (a || b) (refused NoRoom o) (record { answer = Ok (names_count c.filter, manifest_row z); out = laid_over o (layout z) })).answer ≡ Ok (n, row)
+          → (a ≡ false) × Stands (names_count c.filter) z n row (pick (a || b) (refused NoRoom o) (record { answer = Ok (names_count c.filter, manifest_row z); out = laid_over o (layout z) })).out
       go true b i = never NoRoom n row i
       go false true i = never NoRoom n row i
       go false false i =

@@ -40,7 +40,7 @@ used_short c places result = not (is_noop c) && ltb places (manifest_fill result
 unfoldable pub projected_to : Limits → Config → ℕ → Manifest → Lent → Outcome
 projected_to lim c places result o =
     pick (no_room lim (room_of o) (manifest_fill result) || used_short c places result) (refused NoRoom o)
-    (record { answer = Ok ((names_count c.filter), (manifest_row result)); out = laid_over o (layout result) })
+    (record { answer = Ok (names_count c.filter, manifest_row result); out = laid_over o (layout result) })
 
 -- of a lawful manifest: 5, 10, then 8 and 9, then 4
 unfoldable pub projected_given : Limits → Config → ℕ → Manifest → Lent → Outcome

@@ -18,7 +18,7 @@ body_fill m = plus (tree_fill m.tree) (plus (sum segment_fill m.segments) (sum k
 -- given where there is room, with how many segments the mask names
 unfoldable pub filled_to : Limits → ℕ → Manifest → Lent → Outcome
 filled_to lim names result o =
-    pick (no_room lim (room_of o) (manifest_fill result)) (refused NoRoom o) (record { answer = Ok (names, (manifest_row result)); out = laid_over o (layout result) })
+    pick (no_room lim (room_of o) (manifest_fill result)) (refused NoRoom o) (record { answer = Ok (names, manifest_row result); out = laid_over o (layout result) })
 
 -- the same, with so many places in the working list
 unfoldable pub listed_to : Limits → ℕ → ℕ → Manifest → Lent → Outcome

@@ -6,7 +6,7 @@ mod projected_laid;
 
 ghost use Rattle.std.specs.Prelude.{◌≡◌, ◌*◌, ◌/◌, length};
 ghost use Rattle.ids.specs.Names.{ids_of};
-ghost use Rattle.records.specs.Decode.{manifest_in};
+ghost use Rattle.records.specs.Decode.{manifest_in, lent_of};
 ghost use Rattle.measure.specs.Within.{all_views, ids_used};
 ghost use Rattle.lawful.specs.Judge.{judged_of};
 ghost use Rattle.project_ranges.specs.Args.{config_in};
@@ -24,7 +24,7 @@ use project_ranges::{
 };
 use projected_laid::put_projected;
 use prune::measure_pruned;
-use records::{Fill, Limits, ManifestRow, Refusal};
+use records::{Fill, Limits, ManifestRow, Refusal, Tables};
 use tables::held;
 
 // ---- the answer
@@ -32,12 +32,7 @@ use tables::held;
 // The copy, where nothing is asked for.
 fn give_copy(
     lim: Limits,
-    segments: &[u64],
-    views: &[u64],
-    runs: &[u64],
-    borrows: &[u64],
-    ids: &[u64],
-    pool: &[u8],
+    tables: Tables,
     m: ManifestRow,
     names: usize,
     out_segments: &mut [u64],
@@ -47,17 +42,12 @@ fn give_copy(
     out_ids: &mut [u64],
     out_pool: &mut [u8],
 ) -> Result<(usize, ManifestRow), Refusal>
-    requires { judged_of lim (record { segments = segments.now; views = views.now; runs = runs.now; borrows = borrows.now; ids = ids.now; pool = pool.now }) m ≡ Ok tt }
-    ensures { record { answer = result; out = (record { segments = out_segments.new; views = out_views.new; runs = out_runs.new; borrows = out_borrows.new; ids = out_ids.new; pool = out_pool.new }) } ≡ filled_to lim names (manifest_in (record { segments = segments.now; views = views.now; runs = runs.now; borrows = borrows.now; ids = ids.now; pool = pool.now }) m) (record { segments = out_segments.old; views = out_views.old; runs = out_runs.old; borrows = out_borrows.old; ids = out_ids.old; pool = out_pool.old }) }
+    requires { judged_of lim (lent_of tables) m ≡ Ok tt }
+    ensures { record { answer = result; out = (record { segments = out_segments.new; views = out_views.new; runs = out_runs.new; borrows = out_borrows.new; ids = out_ids.new; pool = out_pool.new }) } ≡ filled_to lim names (manifest_in (lent_of tables.entry) m) (record { segments = out_segments.old; views = out_views.old; runs = out_runs.old; borrows = out_borrows.old; ids = out_ids.old; pool = out_pool.old }) }
 {
     let row = canonical_copy(
         lim,
-        segments,
-        views,
-        runs,
-        borrows,
-        ids,
-        pool,
+        tables,
         m,
         out_segments,
         out_views,
@@ -72,12 +62,7 @@ fn give_copy(
 // What is left, whose trees and name fill `d`, and the SST ids of whose views are lent.
 fn give_listed(
     lim: Limits,
-    segments: &[u64],
-    views: &[u64],
-    runs: &[u64],
-    borrows: &[u64],
-    ids: &[u64],
-    pool: &[u8],
+    tables: Tables,
     m: ManifestRow,
     names: usize,
     config: ProjectionConfig,
@@ -91,13 +76,20 @@ fn give_listed(
     out_pool: &mut [u8],
     d: Fill,
 ) -> Result<(usize, ManifestRow), Refusal>
-    requires used_value { ids_of used.now ≡ ids_used (all_views (narrowed (config_in pool.now config own.now) (manifest_in (record { segments = segments.now; views = views.now; runs = runs.now; borrows = borrows.now; ids = ids.now; pool = pool.now }) m))) }
-    requires d_value { d ≡ body_fill (narrowed (config_in pool.now config own.now) (manifest_in (record { segments = segments.now; views = views.now; runs = runs.now; borrows = borrows.now; ids = ids.now; pool = pool.now }) m)) }
-    ensures { record { answer = result; out = (record { segments = out_segments.new; views = out_views.new; runs = out_runs.new; borrows = out_borrows.new; ids = out_ids.new; pool = out_pool.new }) } ≡ filled_to lim names (with_used (narrowed (config_in pool.now config own.now) (manifest_in (record { segments = segments.now; views = views.now; runs = runs.now; borrows = borrows.now; ids = ids.now; pool = pool.now }) m))) (record { segments = out_segments.old; views = out_views.old; runs = out_runs.old; borrows = out_borrows.old; ids = out_ids.old; pool = out_pool.old }) }
+    requires used_value { ids_of used.now ≡ ids_used (all_views (narrowed (config_in tables.pool.now config own.now) (manifest_in (lent_of tables) m))) }
+    requires d_value { d ≡ body_fill (narrowed (config_in tables.pool.now config own.now) (manifest_in (lent_of tables) m)) }
+    ensures { record { answer = result; out = (record { segments = out_segments.new; views = out_views.new; runs = out_runs.new; borrows = out_borrows.new; ids = out_ids.new; pool = out_pool.new }) } ≡ filled_to lim names (with_used (narrowed (config_in tables.entry.pool.now config own.now) (manifest_in (lent_of tables.entry) m))) (record { segments = out_segments.old; views = out_views.old; runs = out_runs.old; borrows = out_borrows.old; ids = out_ids.old; pool = out_pool.old }) }
 {
-    let f = measure_pruned(lim.fill, borrows, m.external_dbs, ids, pool, used, d).ok_or(
-        Refusal::NoRoom,
-    )?;
+    let f = measure_pruned(
+        lim.fill,
+        tables.borrows,
+        m.external_dbs,
+        tables.ids,
+        tables.pool,
+        used,
+        d,
+    )
+    .ok_or(Refusal::NoRoom)?;
     let room = Fill {
         segments: out_segments.len() / 12,
         views: out_views.len() / 16,
@@ -118,12 +110,7 @@ fn give_listed(
         bytes: 0,
     };
     let row = put_projected(
-        segments,
-        views,
-        runs,
-        borrows,
-        ids,
-        pool,
+        tables,
         m,
         config,
         own,
@@ -143,12 +130,7 @@ fn give_listed(
 // What is left, where something is asked for.
 fn give_narrowed(
     lim: Limits,
-    segments: &[u64],
-    views: &[u64],
-    runs: &[u64],
-    borrows: &[u64],
-    ids: &[u64],
-    pool: &[u8],
+    tables: Tables,
     m: ManifestRow,
     names: usize,
     config: ProjectionConfig,
@@ -161,20 +143,20 @@ fn give_narrowed(
     out_ids: &mut [u64],
     out_pool: &mut [u8],
 ) -> Result<(usize, ManifestRow), Refusal>
-    requires { judged_of lim (record { segments = segments.now; views = views.now; runs = runs.now; borrows = borrows.now; ids = ids.now; pool = pool.now }) m ≡ Ok tt }
-    ensures { record { answer = result; out = (record { segments = out_segments.new; views = out_views.new; runs = out_runs.new; borrows = out_borrows.new; ids = out_ids.new; pool = out_pool.new }) } ≡ listed_to lim names (length used.old / 2) (with_used (narrowed (config_in pool.now config own.now) (manifest_in (record { segments = segments.now; views = views.now; runs = runs.now; borrows = borrows.now; ids = ids.now; pool = pool.now }) m))) (record { segments = out_segments.old; views = out_views.old; runs = out_runs.old; borrows = out_borrows.old; ids = out_ids.old; pool = out_pool.old }) }
+    requires { judged_of lim (lent_of tables) m ≡ Ok tt }
+    ensures { record { answer = result; out = (record { segments = out_segments.new; views = out_views.new; runs = out_runs.new; borrows = out_borrows.new; ids = out_ids.new; pool = out_pool.new }) } ≡ listed_to lim names (length used.old / 2) (with_used (narrowed (config_in tables.entry.pool.now config own.now) (manifest_in (lent_of tables.entry) m))) (record { segments = out_segments.old; views = out_views.old; runs = out_runs.old; borrows = out_borrows.old; ids = out_ids.old; pool = out_pool.old }) }
 {
     let t = m.tree;
     let w = m.segments;
     let d = measure_narrowed(
         lim,
-        segments,
+        tables.segments,
         t,
         w,
         m.segment_extractor_name,
-        runs,
-        views,
-        pool,
+        tables.runs,
+        tables.views,
+        tables.pool,
         config,
         own,
     )
@@ -182,16 +164,21 @@ fn give_narrowed(
     if used.len() / 2 < d.views {
         return Err(Refusal::NoRoom);
     }
-    list_used(segments, t, w, runs, views, pool, config, own, used);
+    list_used(
+        tables.segments,
+        t,
+        w,
+        tables.runs,
+        tables.views,
+        tables.pool,
+        config,
+        own,
+        used,
+    );
     let end = d.views * 2;
     give_listed(
         lim,
-        segments,
-        views,
-        runs,
-        borrows,
-        ids,
-        pool,
+        tables,
         m,
         names,
         config,
@@ -210,12 +197,7 @@ fn give_narrowed(
 // The result, where no argument is refused.
 fn give(
     lim: Limits,
-    segments: &[u64],
-    views: &[u64],
-    runs: &[u64],
-    borrows: &[u64],
-    ids: &[u64],
-    pool: &[u8],
+    tables: Tables,
     m: ManifestRow,
     config: ProjectionConfig,
     own: &[u64],
@@ -227,19 +209,14 @@ fn give(
     out_ids: &mut [u64],
     out_pool: &mut [u8],
 ) -> Result<(usize, ManifestRow), Refusal>
-    requires { judged_of lim (record { segments = segments.now; views = views.now; runs = runs.now; borrows = borrows.now; ids = ids.now; pool = pool.now }) m ≡ Ok tt }
-    ensures { record { answer = result; out = (record { segments = out_segments.new; views = out_views.new; runs = out_runs.new; borrows = out_borrows.new; ids = out_ids.new; pool = out_pool.new }) } ≡ projected_to lim (config_in pool.now config own.now) (length used.old / 2) (projected_of (config_in pool.now config own.now) (manifest_in (record { segments = segments.now; views = views.now; runs = runs.now; borrows = borrows.now; ids = ids.now; pool = pool.now }) m)) (record { segments = out_segments.old; views = out_views.old; runs = out_runs.old; borrows = out_borrows.old; ids = out_ids.old; pool = out_pool.old }) }
+    requires { judged_of lim (lent_of tables) m ≡ Ok tt }
+    ensures { record { answer = result; out = (record { segments = out_segments.new; views = out_views.new; runs = out_runs.new; borrows = out_borrows.new; ids = out_ids.new; pool = out_pool.new }) } ≡ projected_to lim (config_in tables.entry.pool.now config own.now) (length used.old / 2) (projected_of (config_in tables.entry.pool.now config own.now) (manifest_in (lent_of tables.entry) m)) (record { segments = out_segments.old; views = out_views.old; runs = out_runs.old; borrows = out_borrows.old; ids = out_ids.old; pool = out_pool.old }) }
 {
     let names = names_count(config.segment_filter);
-    if is_noop(config, pool, own) {
+    if is_noop(config, tables.pool, own) {
         return give_copy(
             lim,
-            segments,
-            views,
-            runs,
-            borrows,
-            ids,
-            pool,
+            tables,
             m,
             names,
             out_segments,
@@ -252,12 +229,7 @@ fn give(
     }
     give_narrowed(
         lim,
-        segments,
-        views,
-        runs,
-        borrows,
-        ids,
-        pool,
+        tables,
         m,
         names,
         config,
@@ -276,12 +248,7 @@ fn give(
 // inner
 pub fn projected_judged(
     lim: Limits,
-    segments: &[u64],
-    views: &[u64],
-    runs: &[u64],
-    borrows: &[u64],
-    ids: &[u64],
-    pool: &[u8],
+    tables: Tables,
     m: ManifestRow,
     c: ProjectionConfig,
     own: &[u64],
@@ -293,27 +260,22 @@ pub fn projected_judged(
     out_ids: &mut [u64],
     out_pool: &mut [u8],
 ) -> Result<(usize, ManifestRow), Refusal>
-    requires { judged_of lim (record { segments = segments.now; views = views.now; runs = runs.now; borrows = borrows.now; ids = ids.now; pool = pool.now }) m ≡ Ok tt }
-    ensures { record { answer = result; out = (record { segments = out_segments.new; views = out_views.new; runs = out_runs.new; borrows = out_borrows.new; ids = out_ids.new; pool = out_pool.new }) } ≡ projected_given lim (config_in pool.now c own.now) (length used.old / 2) (manifest_in (record { segments = segments.now; views = views.now; runs = runs.now; borrows = borrows.now; ids = ids.now; pool = pool.now }) m) (record { segments = out_segments.old; views = out_views.old; runs = out_runs.old; borrows = out_borrows.old; ids = out_ids.old; pool = out_pool.old }) }
+    requires { judged_of lim (lent_of tables) m ≡ Ok tt }
+    ensures { record { answer = result; out = (record { segments = out_segments.new; views = out_views.new; runs = out_runs.new; borrows = out_borrows.new; ids = out_ids.new; pool = out_pool.new }) } ≡ projected_given lim (config_in tables.entry.pool.now c own.now) (length used.old / 2) (manifest_in (lent_of tables.entry) m) (record { segments = out_segments.old; views = out_views.old; runs = out_runs.old; borrows = out_borrows.old; ids = out_ids.old; pool = out_pool.old }) }
 {
-    if global_empty(pool, c) {
+    if global_empty(tables.pool, c) {
         return Err(Refusal::EmptyRange);
     }
     let w = m.segments;
     let filter = c.segment_filter;
-    let n = held(w, segments.len() / 12);
+    let n = held(w, tables.segments.len() / 12);
     if mask_over(n, filter) {
         return Err(Refusal::MaskBit(highest_bit(filter)));
     }
-    match own_fault(segments, pool, w, c, own) {
+    match own_fault(tables.segments, tables.pool, w, c, own) {
         None => give(
             lim,
-            segments,
-            views,
-            runs,
-            borrows,
-            ids,
-            pool,
+            tables,
             m,
             c,
             own,
@@ -332,12 +294,7 @@ pub fn projected_judged(
 // The projection of a manifest.
 pub fn projected(
     lim: Limits,
-    segments: &[u64],
-    views: &[u64],
-    runs: &[u64],
-    borrows: &[u64],
-    ids: &[u64],
-    pool: &[u8],
+    tables: Tables,
     m: ManifestRow,
     c: ProjectionConfig,
     own: &[u64],
@@ -349,21 +306,16 @@ pub fn projected(
     out_ids: &mut [u64],
     out_pool: &mut [u8],
 ) -> Result<(usize, ManifestRow), Refusal>
-    ensures { record { answer = result; out = (record { segments = out_segments.new; views = out_views.new; runs = out_runs.new; borrows = out_borrows.new; ids = out_ids.new; pool = out_pool.new }) } ≡ projected_in lim (record { segments = segments.now; views = views.now; runs = runs.now; borrows = borrows.now; ids = ids.now; pool = pool.now }) m c own.now used.old (record { segments = out_segments.old; views = out_views.old; runs = out_runs.old; borrows = out_borrows.old; ids = out_ids.old; pool = out_pool.old }) }
+    ensures { record { answer = result; out = (record { segments = out_segments.new; views = out_views.new; runs = out_runs.new; borrows = out_borrows.new; ids = out_ids.new; pool = out_pool.new }) } ≡ projected_in lim (lent_of tables.entry) m c own.now used.old (record { segments = out_segments.old; views = out_views.old; runs = out_runs.old; borrows = out_borrows.old; ids = out_ids.old; pool = out_pool.old }) }
 {
-    if config_over(lim.key, pool.len(), m.segments.count, c, own) {
+    if config_over(lim.key, tables.pool.len(), m.segments.count, c, own) {
         return Err(Refusal::OverLimit);
     }
-    // A `match`: what `map_err` makes of a variant's name is not proved.
-    match lawful(lim, segments, views, runs, borrows, ids, pool, m) {
+    // A `match`: the proof answers each of its arms.
+    match lawful(lim, tables, m) {
         Ok(()) => projected_judged(
             lim,
-            segments,
-            views,
-            runs,
-            borrows,
-            ids,
-            pool,
+            tables,
             m,
             c,
             own,

@@ -2,7 +2,7 @@
 ghost use Rattle.std.specs.Prelude.{◌≡◌, true, ◌++◌, ◌+◌, ◌*◌, ◌≤◌, length};
 ghost use Rattle.ids.specs.Names.{ids_of};
 ghost use Rattle.tables.specs.Layout.{write, joined};
-ghost use Rattle.records.specs.Decode.{name_in, borrows_in, manifest_in};
+ghost use Rattle.records.specs.Decode.{name_in, borrows_in, manifest_in, lent_of};
 ghost use Rattle.records.specs.Fill.{plus, sum, fits, key_fill, name_keys, borrow_fill, manifest_fill};
 ghost use Rattle.records.specs.Layout.{run, name_row, borrows_laid, borrow_ids, borrow_path, manifest_row_at, layout_at};
 ghost use Rattle.measure.specs.Within.{all_views, ids_used};
@@ -16,7 +16,7 @@ use emit::put_name;
 use project_lay::put_trees_after;
 use project_ranges::ProjectionConfig;
 use prune::prune_external_sst_ids;
-use records::{Fill, ManifestRow, Place};
+use records::{Fill, ManifestRow, Place, Tables};
 use tables::Window;
 
 // Appends the name, then what is left of the borrows. The ids in use are lent.
@@ -57,12 +57,7 @@ fn put_rest_after(
 
 // Lays the result, which fills `f`, out behind what fills `c`.
 pub fn put_projected(
-    segments: &[u64],
-    views: &[u64],
-    runs: &[u64],
-    borrows: &[u64],
-    ids: &[u64],
-    pool: &[u8],
+    tables: Tables,
     m: ManifestRow,
     config: ProjectionConfig,
     own: &[u64],
@@ -76,24 +71,24 @@ pub fn put_projected(
     f: Fill,
     c: Fill,
 ) -> ManifestRow
-    requires used_value { ids_of used.now ≡ ids_used (all_views (narrowed (config_in pool.now config own.now) (manifest_in (record { segments = segments.now; views = views.now; runs = runs.now; borrows = borrows.now; ids = ids.now; pool = pool.now }) m))) }
-    requires f_value { f ≡ manifest_fill (with_used (narrowed (config_in pool.now config own.now) (manifest_in (record { segments = segments.now; views = views.now; runs = runs.now; borrows = borrows.now; ids = ids.now; pool = pool.now }) m))) }
-    requires out_pool_value { fits (plus c (manifest_fill (with_used (narrowed (config_in pool.now config own.now) (manifest_in (record { segments = segments.now; views = views.now; runs = runs.now; borrows = borrows.now; ids = ids.now; pool = pool.now }) m))))) (room_of (record { segments = out_segments.old; views = out_views.old; runs = out_runs.old; borrows = out_borrows.old; ids = out_ids.old; pool = out_pool.old })) ≡ true }
-    ensures value { result ≡ manifest_row_at c (with_used (narrowed (config_in pool.now config own.now) (manifest_in (record { segments = segments.now; views = views.now; runs = runs.now; borrows = borrows.now; ids = ids.now; pool = pool.now }) m))) }
-    ensures out_segments_after { out_segments.new ≡ write out_segments.old (c.segments * 12) (layout_at c (with_used (narrowed (config_in pool.now config own.now) (manifest_in (record { segments = segments.now; views = views.now; runs = runs.now; borrows = borrows.now; ids = ids.now; pool = pool.now }) m)))).segments }
-    ensures out_views_after { out_views.new ≡ write out_views.old (c.views * 16) (layout_at c (with_used (narrowed (config_in pool.now config own.now) (manifest_in (record { segments = segments.now; views = views.now; runs = runs.now; borrows = borrows.now; ids = ids.now; pool = pool.now }) m)))).views }
-    ensures out_runs_after { out_runs.new ≡ write out_runs.old (c.runs * 3) (layout_at c (with_used (narrowed (config_in pool.now config own.now) (manifest_in (record { segments = segments.now; views = views.now; runs = runs.now; borrows = borrows.now; ids = ids.now; pool = pool.now }) m)))).runs }
-    ensures out_borrows_after { out_borrows.new ≡ write out_borrows.old (c.borrows * 9) (layout_at c (with_used (narrowed (config_in pool.now config own.now) (manifest_in (record { segments = segments.now; views = views.now; runs = runs.now; borrows = borrows.now; ids = ids.now; pool = pool.now }) m)))).borrows }
-    ensures out_ids_after { out_ids.new ≡ write out_ids.old (c.ids * 2) (layout_at c (with_used (narrowed (config_in pool.now config own.now) (manifest_in (record { segments = segments.now; views = views.now; runs = runs.now; borrows = borrows.now; ids = ids.now; pool = pool.now }) m)))).ids }
-    ensures out_pool_after { out_pool.new ≡ write out_pool.old c.bytes (layout_at c (with_used (narrowed (config_in pool.now config own.now) (manifest_in (record { segments = segments.now; views = views.now; runs = runs.now; borrows = borrows.now; ids = ids.now; pool = pool.now }) m)))).pool }
+    requires used_value { ids_of used.now ≡ ids_used (all_views (narrowed (config_in tables.pool.now config own.now) (manifest_in (lent_of tables) m))) }
+    requires f_value { f ≡ manifest_fill (with_used (narrowed (config_in tables.pool.now config own.now) (manifest_in (lent_of tables) m))) }
+    requires out_pool_value { fits (plus c (manifest_fill (with_used (narrowed (config_in tables.pool.now config own.now) (manifest_in (lent_of tables) m))))) (room_of (record { segments = out_segments.old; views = out_views.old; runs = out_runs.old; borrows = out_borrows.old; ids = out_ids.old; pool = out_pool.old })) ≡ true }
+    ensures value { result ≡ manifest_row_at c (with_used (narrowed (config_in tables.entry.pool.now config own.now) (manifest_in (lent_of tables.entry) m))) }
+    ensures out_segments_after { out_segments.new ≡ write out_segments.old (c.segments * 12) (layout_at c (with_used (narrowed (config_in tables.entry.pool.now config own.now) (manifest_in (lent_of tables.entry) m)))).segments }
+    ensures out_views_after { out_views.new ≡ write out_views.old (c.views * 16) (layout_at c (with_used (narrowed (config_in tables.entry.pool.now config own.now) (manifest_in (lent_of tables.entry) m)))).views }
+    ensures out_runs_after { out_runs.new ≡ write out_runs.old (c.runs * 3) (layout_at c (with_used (narrowed (config_in tables.entry.pool.now config own.now) (manifest_in (lent_of tables.entry) m)))).runs }
+    ensures out_borrows_after { out_borrows.new ≡ write out_borrows.old (c.borrows * 9) (layout_at c (with_used (narrowed (config_in tables.entry.pool.now config own.now) (manifest_in (lent_of tables.entry) m)))).borrows }
+    ensures out_ids_after { out_ids.new ≡ write out_ids.old (c.ids * 2) (layout_at c (with_used (narrowed (config_in tables.entry.pool.now config own.now) (manifest_in (lent_of tables.entry) m)))).ids }
+    ensures out_pool_after { out_pool.new ≡ write out_pool.old c.bytes (layout_at c (with_used (narrowed (config_in tables.entry.pool.now config own.now) (manifest_in (lent_of tables.entry) m)))).pool }
 {
     let laid = put_trees_after(
         m.tree,
-        segments,
+        tables.segments,
         m.segments,
-        runs,
-        views,
-        pool,
+        tables.runs,
+        tables.views,
+        tables.pool,
         config,
         own,
         out_segments,
@@ -104,10 +99,10 @@ pub fn put_projected(
     );
     let name = put_rest_after(
         m.segment_extractor_name,
-        borrows,
+        tables.borrows,
         m.external_dbs,
-        ids,
-        pool,
+        tables.ids,
+        tables.pool,
         used,
         out_borrows,
         out_ids,

@@ -22,7 +22,8 @@ use records::Place;
 use what_is_asked::passes;
 pub use what_is_asked::{global_empty, highest_bit, is_noop, mask_over, names_count};
 
-// What is asked for. Whether there is a table of own ranges; the table is lent beside it.
+// What is asked for: the global range, where one is set; the filter, where there is one: a flag for the unsegmented tree, and a mask with a
+// bit for each segment; and whether there is a table of own ranges, which is lent beside it.
 #[derive(Clone, Copy)]
 pub struct ProjectionConfig {
     pub global_range: Option<Range>,

@@ -1,4 +1,5 @@
 -- Which manifest stands in the lent tables.
+use Rattle.records.specs.declared.Tables.{Tables}
 use Rattle.std.specs.Prelude.{ℕ, ◌+◌, ◌/◌, List, length, None, Option, Some}
 use Rattle.keys.specs.Pool.{part_of, edges_of}
 use Rattle.ids.specs.declared.SstId.{SstId}
@@ -24,6 +25,10 @@ pub record Lent : Type 0 where
   pub borrows : List ℕ
   pub ids : List ℕ
   pub pool : List ℕ
+
+-- what the tables hold that a caller lends
+abbrev pub lent_of : Tables → Lent
+lent_of t = record { segments = t.segments.now; views = t.views.now; runs = t.runs.now; borrows = t.borrows.now; ids = t.ids.now; pool = t.pool.now }
 
 -- the bytes of a place
 abbrev pub bytes_in : List ℕ → Place → List ℕ

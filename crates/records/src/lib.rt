@@ -30,7 +30,9 @@ pub struct ViewRow {
     pub id: ViewId,
     pub sst: SstId,
     pub first: Place,
+    // none: unknown
     pub last: Option<Place>,
+    // none: all that its keys span
     pub visible: Option<Range>,
 }
 
@@ -44,7 +46,9 @@ pub struct RunRow {
 // A tree: in a segment's row, or in the manifest's own value.
 #[derive(Clone, Copy)]
 pub struct TreeRow {
+    // the view watermark
     pub view: Option<ViewId>,
+    // the SST watermark
     pub sst: Option<SstId>,
     pub l0: Window,
     pub compacted: Window,
@@ -62,6 +66,7 @@ pub struct SegmentRow {
 pub struct BorrowRow {
     pub path: Place,
     pub source: Uuid,
+    // the final checkpoint
     pub fin: Option<Uuid>,
     pub ids: Window,
 }
@@ -81,6 +86,17 @@ pub struct ManifestRow {
     pub external_dbs: Window,
     pub writer_epoch: u64,
     pub compactor_epoch: u64,
+}
+
+// The six lent tables that a manifest's windows point into.
+#[derive(Clone, Copy)]
+pub struct Tables<'a> {
+    pub segments: &'a [u64],
+    pub views: &'a [u64],
+    pub runs: &'a [u64],
+    pub borrows: &'a [u64],
+    pub ids: &'a [u64],
+    pub pool: &'a [u8],
 }
 
 // What some records fill: places in each table, and bytes of the pool.

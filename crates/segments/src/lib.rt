@@ -7,6 +7,7 @@ ghost use Rattle.keys.specs.Prefix.{under_of, after};
 ghost use Rattle.measure.specs.Tests.{chain};
 ghost use Rattle.keys.specs.Range.{low};
 ghost use Rattle.keys.specs.Pool.{edge_of, edges_of};
+ghost use Rattle.records.specs.Decode.{lent_of};
 ghost use Rattle.lawful.specs.Steps.{prefix_at};
 ghost use Rattle.segments.specs.Prefixes.{prefixes_in};
 ghost use Rattle.segments.specs.Refuses.{long_of, bound_over, range_over};
@@ -18,7 +19,7 @@ use keys::{
     Bound, Range, below_successor, compare, is_empty, is_empty_between, is_inside, is_less, part,
 };
 use lawful::lawful;
-use records::{Limits, ManifestRow, Refusal, segment_at};
+use records::{Limits, ManifestRow, Refusal, Tables, segment_at};
 use tables::{Window, held};
 
 // What a lookup answers.
@@ -89,24 +90,19 @@ fn tree_of(segments: &[u64], pool: &[u8], w: Window, prefix: &[u8]) -> Result<Lo
 // The segment with this prefix; the empty prefix is that of the unsegmented tree.
 pub fn tree_for_segment(
     lim: Limits,
-    segments: &[u64],
-    views: &[u64],
-    runs: &[u64],
-    borrows: &[u64],
-    ids: &[u64],
-    pool: &[u8],
+    tables: Tables,
     m: ManifestRow,
     prefix: &[u8],
 ) -> Result<Looked, Refusal>
-    ensures { result ≡ looked_of lim (record { segments = segments.now; views = views.now; runs = runs.now; borrows = borrows.now; ids = ids.now; pool = pool.now }) m prefix.now }
+    ensures { result ≡ looked_of lim (lent_of tables.entry) m prefix.now }
 {
     if lim.prefix < prefix.len() {
         return Err(Refusal::OverLimit);
     }
-    match lawful(lim, segments, views, runs, borrows, ids, pool, m) {
+    match lawful(lim, tables, m) {
         Ok(()) => {
             let w = m.segments;
-            tree_of(segments, pool, w, prefix)
+            tree_of(tables.segments, tables.pool, w, prefix)
         }
         Err(rule) => Err(Refusal::Unlawful(rule)),
     }
@@ -250,28 +246,23 @@ fn overlapping_segment_indices(
 // The segments with some key in the range.
 pub fn select_segments(
     lim: Limits,
-    segments: &[u64],
-    views: &[u64],
-    runs: &[u64],
-    borrows: &[u64],
-    ids: &[u64],
-    pool: &[u8],
+    tables: Tables,
     m: ManifestRow,
     args: &[u8],
     r: Range,
 ) -> Result<Selected, Refusal>
-    ensures { result ≡ selected_of lim (record { segments = segments.now; views = views.now; runs = runs.now; borrows = borrows.now; ids = ids.now; pool = pool.now }) m args.now r }
+    ensures { result ≡ selected_of lim (lent_of tables.entry) m args.now r }
 {
     if range_over(lim.key, args.len(), r) {
         return Err(Refusal::OverLimit);
     }
-    match lawful(lim, segments, views, runs, borrows, ids, pool, m) {
+    match lawful(lim, tables, m) {
         Ok(()) => {
             if is_empty(args, r) {
                 return Err(Refusal::EmptyRange);
             }
             let w = m.segments;
-            overlapping_segment_indices(segments, pool, w, args, r)
+            overlapping_segment_indices(tables.segments, tables.pool, w, args, r)
         }
         Err(rule) => Err(Refusal::Unlawful(rule)),
     }

@@ -2,6 +2,7 @@
 #![tactic(auto)]
 
 ghost use Rattle.std.specs.Prelude.{◌≡◌, true, ◌+◌, ◌*◌, ◌≤◌, length};
+ghost use Rattle.records.specs.Decode.{lent_of};
 ghost use Rattle.records.specs.Row.{place_at};
 ghost use Rattle.measure.specs.Placed.{opened};
 ghost use Rattle.unite_sources.specs.Source.{greater};
@@ -10,7 +11,7 @@ ghost use Rattle.unite_judge.specs.Judging.{path_over, some_path_over, codes_kno
 ghost use Rattle.unite_judge.specs.Words.{greatest_at, name_at, agreed_at};
 
 use lawful::lawful;
-use records::{Limits, ManifestRow, Place, place_at, tree_at, window_at};
+use records::{Limits, ManifestRow, Place, Tables, place_at, tree_at, window_at};
 
 // ---- a source's row: 22 words
 
@@ -132,55 +133,25 @@ fn codes_known(t: &[u64], b: usize) -> bool
     is_code(t[b + 12])
 }
 
-fn source_judged(
-    lim: Limits,
-    sources: &[u64],
-    b: usize,
-    segments: &[u64],
-    views: &[u64],
-    runs: &[u64],
-    borrows: &[u64],
-    ids: &[u64],
-    pool: &[u8],
-) -> Result<(), usize>
+fn source_judged(lim: Limits, sources: &[u64], b: usize, tables: Tables) -> Result<(), usize>
     requires { b + 22 ≤ length sources.now }
-    ensures { result ≡ source_judged lim (record { segments = segments.now; views = views.now; runs = runs.now; borrows = borrows.now; ids = ids.now; pool = pool.now }) sources.now b }
+    ensures { result ≡ source_judged lim (lent_of tables.entry) sources.now b }
 {
     if !codes_known(sources, b) {
         return Err(1);
     }
     let m = source_manifest(sources, b);
-    lawful(lim, segments, views, runs, borrows, ids, pool, m)
+    lawful(lim, tables, m)
 }
 
 // The first rule that one of the first `n` sources breaks, in the order given.
 // inner
-pub fn sources_judged(
-    lim: Limits,
-    sources: &[u64],
-    n: usize,
-    segments: &[u64],
-    views: &[u64],
-    runs: &[u64],
-    borrows: &[u64],
-    ids: &[u64],
-    pool: &[u8],
-) -> Result<(), usize>
+pub fn sources_judged(lim: Limits, sources: &[u64], n: usize, tables: Tables) -> Result<(), usize>
     requires { n * 22 ≤ length sources.now }
-    ensures { result ≡ sources_judged lim (record { segments = segments.now; views = views.now; runs = runs.now; borrows = borrows.now; ids = ids.now; pool = pool.now }) sources.now n }
+    ensures { result ≡ sources_judged lim (lent_of tables.entry) sources.now n }
 {
     for i in 0..n {
-        let j = source_judged(
-            lim,
-            sources,
-            i * 22,
-            segments,
-            views,
-            runs,
-            borrows,
-            ids,
-            pool,
-        );
+        let j = source_judged(lim, sources, i * 22, tables);
         match j {
             Ok(()) => {}
             Err(rule) => {

@@ -6,7 +6,7 @@ ghost use Rattle.std.specs.Prelude.{◌≡◌, true, [], ◌+◌, ◌*◌, ◌�
 ghost use Rattle.tables.specs.Layout.{write, joined};
 ghost use Rattle.ids.specs.Names.{ids_of};
 ghost use Rattle.records.specs.Row.{at, place_at};
-ghost use Rattle.records.specs.Decode.{manifest_in};
+ghost use Rattle.records.specs.Decode.{manifest_in, lent_of};
 ghost use Rattle.borrows.specs.Owned.{owned_of};
 ghost use Rattle.lawful.specs.Judge.{judged_of};
 ghost use Rattle.unite_groups.specs.Rows.{members_in, end_by, supplies_in, entered_from};
@@ -16,7 +16,7 @@ ghost use Rattle.unite_lend.specs.Used.{some_below, lacks_at, segmented_at, supp
 
 use borrows::{lacks_final, own_all};
 use ids::Uuid;
-use records::{Limits, Place, place_at};
+use records::{Limits, Place, Tables, place_at};
 use tables::{held, ix, put};
 use unite_groups::{Grouped, group_borrows, group_owned};
 use unite_judge::source_manifest;
@@ -126,28 +126,26 @@ fn checkpoint_of(sources: &[u64], b: usize) -> Uuid
 }
 
 // Lists the own ids of the source whose row begins at word `b`. It answers how many there are.
-fn list_owned(
-    lim: Limits,
-    sources: &[u64],
-    b: usize,
-    segments: &[u64],
-    views: &[u64],
-    runs: &[u64],
-    borrows: &[u64],
-    ids: &[u64],
-    pool: &[u8],
-    owned: &mut [u64],
-) -> usize
+fn list_owned(lim: Limits, sources: &[u64], b: usize, tables: Tables, owned: &mut [u64]) -> usize
     requires b_in_bounds { b + 22 ≤ length sources.now }
-    requires b_value { judged_of lim (record { segments = segments.now; views = views.now; runs = runs.now; borrows = borrows.now; ids = ids.now; pool = pool.now }) (manifest_at_word sources.now b) ≡ Ok tt }
+    requires b_value { judged_of lim (lent_of tables) (manifest_at_word sources.now b) ≡ Ok tt }
     requires views_in_bounds { lim.fill.views * 2 ≤ length owned.old }
-    ensures owned_after { ids_of (take (result * 2) owned.new) ≡ owned_of (manifest_in (record { segments = segments.now; views = views.now; runs = runs.now; borrows = borrows.now; ids = ids.now; pool = pool.now }) (manifest_at_word sources.now b)) }
+    ensures owned_after { ids_of (take (result * 2) owned.new) ≡ owned_of (manifest_in (lent_of tables.entry) (manifest_at_word sources.now b)) }
     ensures result_in_bounds { result * 2 ≤ length owned.new }
     ensures owned_len_bound { length (ids_of (take (result * 2) owned.new)) ≤ lim.fill.views }
     ensures owned_len_unchanged { length owned.new ≡ length owned.old }
 {
     let m = source_manifest(sources, b);
-    own_all(segments, views, runs, borrows, ids, m, owned, 0)
+    own_all(
+        tables.segments,
+        tables.views,
+        tables.runs,
+        tables.borrows,
+        tables.ids,
+        m,
+        owned,
+        0,
+    )
 }
 
 // Enters the own ids of the source whose row begins at word `b`. `owned` is working memory.
@@ -155,12 +153,7 @@ fn group_own(
     lim: Limits,
     sources: &[u64],
     b: usize,
-    segments: &[u64],
-    views: &[u64],
-    runs: &[u64],
-    borrows: &[u64],
-    ids: &[u64],
-    pool: &[u8],
+    tables: Tables,
     supplies: &[u64],
     n: usize,
     owned: &mut [u64],
@@ -169,13 +162,13 @@ fn group_own(
     g: Grouped,
 ) -> Grouped
     requires b_in_bounds { b + 22 ≤ length sources.now }
-    requires b_value { judged_of lim (record { segments = segments.now; views = views.now; runs = runs.now; borrows = borrows.now; ids = ids.now; pool = pool.now }) (manifest_at_word sources.now b) ≡ Ok tt }
+    requires b_value { judged_of lim (lent_of tables) (manifest_at_word sources.now b) ≡ Ok tt }
     requires n_in_bounds { n * 4 ≤ length supplies.now }
     requires views_in_bounds { lim.fill.views * 2 ≤ length owned.old }
     requires groups_value { end_by g.ids groups.old g.groups ≡ true }
     requires groups_in_bounds { (g.groups + 1) * 6 ≤ length groups.old }
     requires views_in_bounds_2 { (g.ids + lim.fill.views) * 2 ≤ length work.old }
-    ensures groups_after { members_in groups.new work.new pool.now result.groups ≡ entered_from (supplies_in supplies.now pool.now n) (members_in groups.old work.old pool.now g.groups) (own_members (source_at_word (record { segments = segments.now; views = views.now; runs = runs.now; borrows = borrows.now; ids = ids.now; pool = pool.now }) sources.now b)) }
+    ensures groups_after { members_in groups.new work.new tables.entry.pool.now result.groups ≡ entered_from (supplies_in supplies.now tables.entry.pool.now n) (members_in groups.old work.old tables.entry.pool.now g.groups) (own_members (source_at_word (lent_of tables.entry) sources.now b)) }
     ensures groups_after_2 { end_by result.ids groups.new result.groups ≡ true }
     ensures groups_bound { result.groups ≤ g.groups + 1 }
     ensures ids_bound { result.ids ≤ g.ids + lim.fill.views }
@@ -183,13 +176,11 @@ fn group_own(
     ensures work_len_unchanged { length work.new ≡ length work.old }
     ensures owned_len_unchanged { length owned.new ≡ length owned.old }
 {
-    let e = list_owned(
-        lim, sources, b, segments, views, runs, borrows, ids, pool, owned,
-    );
+    let e = list_owned(lim, sources, b, tables, owned);
     let path = path_of(sources, b);
     let u = checkpoint_of(sources, b);
     let own = front_ids(owned, e);
-    group_owned(own, path, u, pool, supplies, n, groups, work, g)
+    group_owned(own, path, u, tables.pool, supplies, n, groups, work, g)
 }
 
 // Enters the members of the source whose row begins at word `b`: its borrows, then its own ids.
@@ -197,12 +188,7 @@ fn group_source(
     lim: Limits,
     sources: &[u64],
     b: usize,
-    segments: &[u64],
-    views: &[u64],
-    runs: &[u64],
-    borrows: &[u64],
-    ids: &[u64],
-    pool: &[u8],
+    tables: Tables,
     supplies: &[u64],
     n: usize,
     owned: &mut [u64],
@@ -211,13 +197,13 @@ fn group_source(
     g: Grouped,
 ) -> Grouped
     requires b_in_bounds { b + 22 ≤ length sources.now }
-    requires b_value { judged_of lim (record { segments = segments.now; views = views.now; runs = runs.now; borrows = borrows.now; ids = ids.now; pool = pool.now }) (manifest_at_word sources.now b) ≡ Ok tt }
+    requires b_value { judged_of lim (lent_of tables) (manifest_at_word sources.now b) ≡ Ok tt }
     requires n_in_bounds { n * 4 ≤ length supplies.now }
     requires views_in_bounds { lim.fill.views * 2 ≤ length owned.old }
     requires groups_value { end_by g.ids groups.old g.groups ≡ true }
     requires borrows_in_bounds { (g.groups + (lim.fill.borrows + 1)) * 6 ≤ length groups.old }
     requires views_in_bounds_2 { (g.ids + (lim.fill.ids + lim.fill.views)) * 2 ≤ length work.old }
-    ensures groups_after { members_in groups.new work.new pool.now result.groups ≡ entered_from (supplies_in supplies.now pool.now n) (members_in groups.old work.old pool.now g.groups) (source_members (source_at_word (record { segments = segments.now; views = views.now; runs = runs.now; borrows = borrows.now; ids = ids.now; pool = pool.now }) sources.now b)) }
+    ensures groups_after { members_in groups.new work.new tables.entry.pool.now result.groups ≡ entered_from (supplies_in supplies.now tables.entry.pool.now n) (members_in groups.old work.old tables.entry.pool.now g.groups) (source_members (source_at_word (lent_of tables.entry) sources.now b)) }
     ensures groups_after_2 { end_by result.ids groups.new result.groups ≡ true }
     ensures groups_bound { result.groups ≤ g.groups + (lim.fill.borrows + 1) }
     ensures ids_bound { result.ids ≤ g.ids + (lim.fill.ids + lim.fill.views) }
@@ -226,11 +212,18 @@ fn group_source(
     ensures owned_len_unchanged { length owned.new ≡ length owned.old }
 {
     let w = window_in(sources, b, 16);
-    let h = group_borrows(borrows, w, ids, pool, supplies, n, groups, work, g);
-    group_own(
-        lim, sources, b, segments, views, runs, borrows, ids, pool, supplies, n, owned, groups,
-        work, h,
-    )
+    let h = group_borrows(
+        tables.borrows,
+        w,
+        tables.ids,
+        tables.pool,
+        supplies,
+        n,
+        groups,
+        work,
+        g,
+    );
+    group_own(lim, sources, b, tables, supplies, n, owned, groups, work, h)
 }
 
 // The same for the used source in row `i`.
@@ -239,12 +232,7 @@ fn group_at(
     sources: &[u64],
     order: &[u64],
     i: usize,
-    segments: &[u64],
-    views: &[u64],
-    runs: &[u64],
-    borrows: &[u64],
-    ids: &[u64],
-    pool: &[u8],
+    tables: Tables,
     supplies: &[u64],
     n: usize,
     owned: &mut [u64],
@@ -253,13 +241,13 @@ fn group_at(
     g: Grouped,
 ) -> Grouped
     requires i_in_bounds { (i + 1) * 7 ≤ length order.now }
-    requires i_value { sound_at lim (record { segments = segments.now; views = views.now; runs = runs.now; borrows = borrows.now; ids = ids.now; pool = pool.now }) sources.now (at order.now (i * 7)) ≡ true }
+    requires i_value { sound_at lim (lent_of tables) sources.now (at order.now (i * 7)) ≡ true }
     requires n_in_bounds { n * 4 ≤ length supplies.now }
     requires views_in_bounds { lim.fill.views * 2 ≤ length owned.old }
     requires groups_value { end_by g.ids groups.old g.groups ≡ true }
     requires borrows_in_bounds { (g.groups + (lim.fill.borrows + 1)) * 6 ≤ length groups.old }
     requires views_in_bounds_2 { (g.ids + (lim.fill.ids + lim.fill.views)) * 2 ≤ length work.old }
-    ensures groups_after { members_in groups.new work.new pool.now result.groups ≡ entered_from (supplies_in supplies.now pool.now n) (members_in groups.old work.old pool.now g.groups) (source_members (source_at_word (record { segments = segments.now; views = views.now; runs = runs.now; borrows = borrows.now; ids = ids.now; pool = pool.now }) sources.now (at order.now (i * 7)))) }
+    ensures groups_after { members_in groups.new work.new tables.entry.pool.now result.groups ≡ entered_from (supplies_in supplies.now tables.entry.pool.now n) (members_in groups.old work.old tables.entry.pool.now g.groups) (source_members (source_at_word (lent_of tables.entry) sources.now (at order.now (i * 7)))) }
     ensures groups_after_2 { end_by result.ids groups.new result.groups ≡ true }
     ensures groups_bound { result.groups ≤ g.groups + (lim.fill.borrows + 1) }
     ensures ids_bound { result.ids ≤ g.ids + (lim.fill.ids + lim.fill.views) }
@@ -268,10 +256,7 @@ fn group_at(
     ensures owned_len_unchanged { length owned.new ≡ length owned.old }
 {
     let b = ix(order[i * 7]);
-    group_source(
-        lim, sources, b, segments, views, runs, borrows, ids, pool, supplies, n, owned, groups,
-        work, g,
-    )
+    group_source(lim, sources, b, tables, supplies, n, owned, groups, work, g)
 }
 
 // The members of the first `n` used sources, grouped from nothing. It answers how many groups there are.
@@ -281,12 +266,7 @@ pub fn group_sources(
     sources: &[u64],
     order: &[u64],
     n: usize,
-    segments: &[u64],
-    views: &[u64],
-    runs: &[u64],
-    borrows: &[u64],
-    ids: &[u64],
-    pool: &[u8],
+    tables: Tables,
     supplies: &[u64],
     owned: &mut [u64],
     groups: &mut [u64],
@@ -294,19 +274,18 @@ pub fn group_sources(
 ) -> usize
     requires n_le_most_sources { n ≤ most_sources }
     requires n_in_bounds { n * 7 ≤ length order.now }
-    requires n_value { sound_below lim (record { segments = segments.now; views = views.now; runs = runs.now; borrows = borrows.now; ids = ids.now; pool = pool.now }) sources.now order.now n ≡ true }
+    requires n_value { sound_below lim (lent_of tables) sources.now order.now n ≡ true }
     requires n_in_bounds_2 { n * 4 ≤ length supplies.now }
     requires views_in_bounds { lim.fill.views * 2 ≤ length owned.old }
     requires borrows_in_bounds { most_sources * (lim.fill.borrows + 1) * 6 ≤ length groups.old }
     requires views_in_bounds_2 { most_sources * (lim.fill.ids + lim.fill.views) * 2 ≤ length work.old }
-    ensures result_after { members_in groups.new work.new pool.now result ≡ entered_from (supplies_in supplies.now pool.now n) [] (members_at (record { segments = segments.now; views = views.now; runs = runs.now; borrows = borrows.now; ids = ids.now; pool = pool.now }) sources.now order.now n) }
+    ensures result_after { members_in groups.new work.new tables.entry.pool.now result ≡ entered_from (supplies_in supplies.now tables.entry.pool.now n) [] (members_at (lent_of tables.entry) sources.now order.now n) }
     ensures result_in_bounds { result * 6 ≤ length groups.new }
 {
     let mut g = Grouped { groups: 0, ids: 0 };
     for i in 0..n {
         g = group_at(
-            lim, sources, order, i, segments, views, runs, borrows, ids, pool, supplies, n, owned,
-            groups, work, g,
+            lim, sources, order, i, tables, supplies, n, owned, groups, work, g,
         );
     }
     g.groups

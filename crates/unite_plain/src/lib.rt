@@ -3,6 +3,7 @@
 #![tactic(auto)]
 
 ghost use Rattle.std.specs.Prelude.{◌≡◌, true, [], map, ◌+◌, ◌*◌, ◌≤◌, length};
+ghost use Rattle.records.specs.Decode.{lent_of};
 ghost use Rattle.records.specs.Model.{none};
 ghost use Rattle.borrows.specs.Clone.{uuids_of};
 ghost use Rattle.unite_trees.specs.Joined.{joined_tree};
@@ -17,7 +18,7 @@ ghost use Rattle.unite.specs.United.{members_of, supplies_of, borrows_united, as
 ghost use Rattle.unite.specs.Answer.{union_to};
 ghost use Rattle.unite_plain.specs.By.{used_in, union_by};
 
-use records::{Limits, ManifestRow, Refusal};
+use records::{Limits, ManifestRow, Refusal, Tables};
 use unite::given_plain;
 use unite_lend::{group_sources, put_supplies, used_lack_final, used_segmented};
 use unite_ranges::ranges_overlap;
@@ -29,30 +30,24 @@ pub fn group_used(
     sources: &[u64],
     order: &[u64],
     n: usize,
-    segments: &[u64],
-    views: &[u64],
-    runs: &[u64],
-    borrows: &[u64],
-    ids: &[u64],
-    pool: &[u8],
+    tables: Tables,
     owned: &mut [u64],
     groups: &mut [u64],
     sets: &mut [u64],
 ) -> usize
     requires n_le_most_sources { n ≤ most_sources }
     requires n_in_bounds { n * 7 ≤ length order.now }
-    requires n_value { sound_below lim (record { segments = segments.now; views = views.now; runs = runs.now; borrows = borrows.now; ids = ids.now; pool = pool.now }) sources.now order.now n ≡ true }
+    requires n_value { sound_below lim (lent_of tables) sources.now order.now n ≡ true }
     requires views_in_bounds { lim.fill.views * 2 ≤ length owned.old }
     requires borrows_in_bounds { most_sources * (lim.fill.borrows + 1) * 6 ≤ length groups.old }
     requires views_in_bounds_2 { most_sources * (lim.fill.ids + lim.fill.views) * 2 ≤ length sets.old }
-    ensures result_after { members_in groups.new sets.new pool.now result ≡ chosen_all (supplies_of (map (source_at_word (record { segments = segments.now; views = views.now; runs = runs.now; borrows = borrows.now; ids = ids.now; pool = pool.now }) sources.now) (begins order.now n))) (grouped (members_of (map (source_at_word (record { segments = segments.now; views = views.now; runs = runs.now; borrows = borrows.now; ids = ids.now; pool = pool.now }) sources.now) (begins order.now n)))) }
+    ensures result_after { members_in groups.new sets.new tables.entry.pool.now result ≡ chosen_all (supplies_of (map (source_at_word (lent_of tables.entry) sources.now) (begins order.now n))) (grouped (members_of (map (source_at_word (lent_of tables.entry) sources.now) (begins order.now n)))) }
     ensures result_in_bounds { result * 6 ≤ length groups.new }
 {
     let mut supplies = [0u64; 32];
     put_supplies(sources, order, n, &mut supplies);
     group_sources(
-        lim, sources, order, n, segments, views, runs, borrows, ids, pool, &supplies, owned,
-        groups, sets,
+        lim, sources, order, n, tables, &supplies, owned, groups, sets,
     )
 }
 
@@ -62,12 +57,7 @@ fn grouped_plain(
     sources: &[u64],
     order: &[u64],
     n: usize,
-    segments: &[u64],
-    views: &[u64],
-    runs: &[u64],
-    borrows: &[u64],
-    ids: &[u64],
-    pool: &[u8],
+    tables: Tables,
     fresh: &[u64],
     seq: u64,
     owned: &mut [u64],
@@ -82,23 +72,21 @@ fn grouped_plain(
 ) -> Result<ManifestRow, Refusal>
     requires n_le_most_sources { n ≤ most_sources }
     requires n_in_bounds { n * 7 ≤ length order.now }
-    requires n_value { sound_below lim (record { segments = segments.now; views = views.now; runs = runs.now; borrows = borrows.now; ids = ids.now; pool = pool.now }) sources.now order.now n ≡ true }
+    requires n_value { sound_below lim (lent_of tables) sources.now order.now n ≡ true }
     requires views_in_bounds { lim.fill.views * 2 ≤ length owned.old }
     requires borrows_in_bounds { most_sources * (lim.fill.borrows + 1) * 6 ≤ length groups.old }
     requires views_in_bounds_2 { most_sources * (lim.fill.ids + lim.fill.views) * 2 ≤ length sets.old }
-    ensures { record { answer = result; out = record { segments = out_segments.new; views = out_views.new; runs = out_runs.new; borrows = out_borrows.new; ids = out_ids.new; pool = out_pool.new } } ≡ union_to lim [] (uuids_of fresh.now) (assembled (joined_tree (own_trees (map (source_at_word (record { segments = segments.now; views = views.now; runs = runs.now; borrows = borrows.now; ids = ids.now; pool = pool.now }) sources.now) (begins order.now n)))) [] none seq (borrows_united (map (source_at_word (record { segments = segments.now; views = views.now; runs = runs.now; borrows = borrows.now; ids = ids.now; pool = pool.now }) sources.now) (begins order.now n)) (uuids_of fresh.now))) (record { segments = out_segments.old; views = out_views.old; runs = out_runs.old; borrows = out_borrows.old; ids = out_ids.old; pool = out_pool.old }) }
+    ensures { record { answer = result; out = record { segments = out_segments.new; views = out_views.new; runs = out_runs.new; borrows = out_borrows.new; ids = out_ids.new; pool = out_pool.new } } ≡ union_to lim [] (uuids_of fresh.now) (assembled (joined_tree (own_trees (map (source_at_word (lent_of tables.entry) sources.now) (begins order.now n)))) [] none seq (borrows_united (map (source_at_word (lent_of tables.entry) sources.now) (begins order.now n)) (uuids_of fresh.now))) (record { segments = out_segments.old; views = out_views.old; runs = out_runs.old; borrows = out_borrows.old; ids = out_ids.old; pool = out_pool.old }) }
 {
-    let count = group_used(
-        lim, sources, order, n, segments, views, runs, borrows, ids, pool, owned, groups, sets,
-    );
+    let count = group_used(lim, sources, order, n, tables, owned, groups, sets);
     given_plain(
         lim,
         sources,
         order,
         n,
-        runs,
-        views,
-        pool,
+        tables.runs,
+        tables.views,
+        tables.pool,
         groups,
         count,
         sets,
@@ -120,12 +108,7 @@ pub fn union_plain(
     sources: &[u64],
     order: &[u64],
     n: usize,
-    segments: &[u64],
-    views: &[u64],
-    runs: &[u64],
-    borrows: &[u64],
-    ids: &[u64],
-    pool: &[u8],
+    tables: Tables,
     fresh: &[u64],
     seq: u64,
     owned: &mut [u64],
@@ -140,19 +123,19 @@ pub fn union_plain(
 ) -> Result<ManifestRow, Refusal>
     requires n_le_most_sources { n ≤ most_sources }
     requires n_in_bounds { n * 7 ≤ length order.now }
-    requires n_value { sound_below lim (record { segments = segments.now; views = views.now; runs = runs.now; borrows = borrows.now; ids = ids.now; pool = pool.now }) sources.now order.now n ≡ true }
+    requires n_value { sound_below lim (lent_of tables) sources.now order.now n ≡ true }
     requires views_in_bounds { lim.fill.views * 2 ≤ length owned.old }
     requires borrows_in_bounds { most_sources * (lim.fill.borrows + 1) * 6 ≤ length groups.old }
     requires views_in_bounds_2 { most_sources * (lim.fill.ids + lim.fill.views) * 2 ≤ length sets.old }
-    ensures { record { answer = result; out = record { segments = out_segments.new; views = out_views.new; runs = out_runs.new; borrows = out_borrows.new; ids = out_ids.new; pool = out_pool.new } } ≡ union_by lim none (used_in (record { segments = segments.now; views = views.now; runs = runs.now; borrows = borrows.now; ids = ids.now; pool = pool.now }) sources.now order.now n) seq (uuids_of fresh.now) (record { segments = out_segments.old; views = out_views.old; runs = out_runs.old; borrows = out_borrows.old; ids = out_ids.old; pool = out_pool.old }) }
+    ensures { record { answer = result; out = record { segments = out_segments.new; views = out_views.new; runs = out_runs.new; borrows = out_borrows.new; ids = out_ids.new; pool = out_pool.new } } ≡ union_by lim none (used_in (lent_of tables.entry) sources.now order.now n) seq (uuids_of fresh.now) (record { segments = out_segments.old; views = out_views.old; runs = out_runs.old; borrows = out_borrows.old; ids = out_ids.old; pool = out_pool.old }) }
 {
-    if ranges_overlap(order, n, pool) {
+    if ranges_overlap(order, n, tables.pool) {
         return Err(Refusal::Overlap(0));
     }
-    if used_segmented(sources, order, n, segments) {
+    if used_segmented(sources, order, n, tables.segments) {
         return Err(Refusal::SegmentsUnnamed);
     }
-    if used_lack_final(sources, order, n, borrows) {
+    if used_lack_final(sources, order, n, tables.borrows) {
         return Err(Refusal::NoFinal);
     }
     grouped_plain(
@@ -160,12 +143,7 @@ pub fn union_plain(
         sources,
         order,
         n,
-        segments,
-        views,
-        runs,
-        borrows,
-        ids,
-        pool,
+        tables,
         fresh,
         seq,
         owned,

@@ -6,7 +6,7 @@ ghost use Rattle.std.specs.Prelude.{◌≡◌, true, [], map, ◌+◌, ◌*◌, 
 ghost use Rattle.borrows.specs.Clone.{uuids_of};
 ghost use Rattle.records.specs.Model.{named};
 ghost use Rattle.records.specs.New.{new_tree};
-ghost use Rattle.records.specs.Decode.{bytes_in};
+ghost use Rattle.records.specs.Decode.{bytes_in, lent_of};
 ghost use Rattle.unite_sources.specs.Prefixed.{all_prefixes, segments_of};
 ghost use Rattle.unite_sources.specs.Rows.{source_at_word, begins, places_in};
 ghost use Rattle.unite_named.specs.Named.{overlap_at, tree_tables};
@@ -16,7 +16,7 @@ ghost use Rattle.unite.specs.United.{borrows_united, assembled};
 ghost use Rattle.unite.specs.Answer.{union_to};
 ghost use Rattle.unite_plain.specs.By.{used_in, union_by};
 
-use records::{Limits, ManifestRow, Place, Refusal};
+use records::{Limits, ManifestRow, Place, Refusal, Tables};
 use unite_lend::used_lack_final;
 use unite_named::first_overlap;
 use unite_plain::group_used;
@@ -34,12 +34,7 @@ fn grouped_named(
     prefixes: &[u64],
     np: usize,
     name: Place,
-    segments: &[u64],
-    views: &[u64],
-    runs: &[u64],
-    borrows: &[u64],
-    ids: &[u64],
-    pool: &[u8],
+    tables: Tables,
     fresh: &[u64],
     seq: u64,
     owned: &mut [u64],
@@ -54,17 +49,15 @@ fn grouped_named(
 ) -> Result<ManifestRow, Refusal>
     requires n_le_most_sources { n ≤ most_sources }
     requires n_in_bounds { n * 7 ≤ length order.now }
-    requires n_value { sound_below lim (record { segments = segments.now; views = views.now; runs = runs.now; borrows = borrows.now; ids = ids.now; pool = pool.now }) sources.now order.now n ≡ true }
+    requires n_value { sound_below lim (lent_of tables) sources.now order.now n ≡ true }
     requires views_in_bounds { lim.fill.views * 2 ≤ length owned.old }
     requires borrows_in_bounds { most_sources * (lim.fill.borrows + 1) * 6 ≤ length groups.old }
     requires views_in_bounds_2 { most_sources * (lim.fill.ids + lim.fill.views) * 2 ≤ length sets.old }
     requires np_in_bounds { np * 2 ≤ length prefixes.now }
-    requires np_value { places_in prefixes.now pool.now np ≡ all_prefixes (map (source_at_word (record { segments = segments.now; views = views.now; runs = runs.now; borrows = borrows.now; ids = ids.now; pool = pool.now }) sources.now) (begins order.now n)) }
-    ensures { record { answer = result; out = record { segments = out_segments.new; views = out_views.new; runs = out_runs.new; borrows = out_borrows.new; ids = out_ids.new; pool = out_pool.new } } ≡ union_to lim [] (uuids_of fresh.now) (assembled new_tree (segments_of (map (source_at_word (record { segments = segments.now; views = views.now; runs = runs.now; borrows = borrows.now; ids = ids.now; pool = pool.now }) sources.now) (begins order.now n)) (all_prefixes (map (source_at_word (record { segments = segments.now; views = views.now; runs = runs.now; borrows = borrows.now; ids = ids.now; pool = pool.now }) sources.now) (begins order.now n)))) (named (bytes_in pool.now name)) seq (borrows_united (map (source_at_word (record { segments = segments.now; views = views.now; runs = runs.now; borrows = borrows.now; ids = ids.now; pool = pool.now }) sources.now) (begins order.now n)) (uuids_of fresh.now))) (record { segments = out_segments.old; views = out_views.old; runs = out_runs.old; borrows = out_borrows.old; ids = out_ids.old; pool = out_pool.old }) }
+    requires np_value { places_in prefixes.now tables.pool.now np ≡ all_prefixes (map (source_at_word (lent_of tables) sources.now) (begins order.now n)) }
+    ensures { record { answer = result; out = record { segments = out_segments.new; views = out_views.new; runs = out_runs.new; borrows = out_borrows.new; ids = out_ids.new; pool = out_pool.new } } ≡ union_to lim [] (uuids_of fresh.now) (assembled new_tree (segments_of (map (source_at_word (lent_of tables.entry) sources.now) (begins order.now n)) (all_prefixes (map (source_at_word (lent_of tables.entry) sources.now) (begins order.now n)))) (named (bytes_in tables.entry.pool.now name)) seq (borrows_united (map (source_at_word (lent_of tables.entry) sources.now) (begins order.now n)) (uuids_of fresh.now))) (record { segments = out_segments.old; views = out_views.old; runs = out_runs.old; borrows = out_borrows.old; ids = out_ids.old; pool = out_pool.old }) }
 {
-    let count = group_used(
-        lim, sources, order, n, segments, views, runs, borrows, ids, pool, owned, groups, sets,
-    );
+    let count = group_used(lim, sources, order, n, tables, owned, groups, sets);
     let mut shares = [0u64; 56];
     given_named(
         lim,
@@ -74,10 +67,10 @@ fn grouped_named(
         prefixes,
         np,
         name,
-        segments,
-        views,
-        runs,
-        pool,
+        tables.segments,
+        tables.views,
+        tables.runs,
+        tables.pool,
         groups,
         count,
         sets,
@@ -136,12 +129,7 @@ fn fit_named(
     prefixes: &[u64],
     np: usize,
     name: Place,
-    segments: &[u64],
-    views: &[u64],
-    runs: &[u64],
-    borrows: &[u64],
-    ids: &[u64],
-    pool: &[u8],
+    tables: Tables,
     fresh: &[u64],
     seq: u64,
     owned: &mut [u64],
@@ -156,22 +144,32 @@ fn fit_named(
 ) -> Result<ManifestRow, Refusal>
     requires n_le_most_sources { n ≤ most_sources }
     requires n_in_bounds { n * 7 ≤ length order.now }
-    requires n_value { sound_below lim (record { segments = segments.now; views = views.now; runs = runs.now; borrows = borrows.now; ids = ids.now; pool = pool.now }) sources.now order.now n ≡ true }
+    requires n_value { sound_below lim (lent_of tables) sources.now order.now n ≡ true }
     requires views_in_bounds { lim.fill.views * 2 ≤ length owned.old }
     requires borrows_in_bounds { most_sources * (lim.fill.borrows + 1) * 6 ≤ length groups.old }
     requires views_in_bounds_2 { most_sources * (lim.fill.ids + lim.fill.views) * 2 ≤ length sets.old }
     requires np_in_bounds { np * 2 ≤ length prefixes.now }
-    requires np_value { places_in prefixes.now pool.now np ≡ all_prefixes (map (source_at_word (record { segments = segments.now; views = views.now; runs = runs.now; borrows = borrows.now; ids = ids.now; pool = pool.now }) sources.now) (begins order.now n)) }
-    ensures { record { answer = result; out = record { segments = out_segments.new; views = out_views.new; runs = out_runs.new; borrows = out_borrows.new; ids = out_ids.new; pool = out_pool.new } } ≡ union_by lim (named (bytes_in pool.now name)) (used_in (record { segments = segments.now; views = views.now; runs = runs.now; borrows = borrows.now; ids = ids.now; pool = pool.now }) sources.now order.now n) seq (uuids_of fresh.now) (record { segments = out_segments.old; views = out_views.old; runs = out_runs.old; borrows = out_borrows.old; ids = out_ids.old; pool = out_pool.old }) }
+    requires np_value { places_in prefixes.now tables.pool.now np ≡ all_prefixes (map (source_at_word (lent_of tables) sources.now) (begins order.now n)) }
+    ensures { record { answer = result; out = record { segments = out_segments.new; views = out_views.new; runs = out_runs.new; borrows = out_borrows.new; ids = out_ids.new; pool = out_pool.new } } ≡ union_by lim (named (bytes_in tables.entry.pool.now name)) (used_in (lent_of tables.entry) sources.now order.now n) seq (uuids_of fresh.now) (record { segments = out_segments.old; views = out_views.old; runs = out_runs.old; borrows = out_borrows.old; ids = out_ids.old; pool = out_pool.old }) }
 {
-    if prefixes_nest(prefixes, np, pool) {
+    if prefixes_nest(prefixes, np, tables.pool) {
         return Err(Refusal::SourcesNest);
     }
-    let k = overlap_place(sources, order, n, prefixes, np, segments, views, runs, pool);
+    let k = overlap_place(
+        sources,
+        order,
+        n,
+        prefixes,
+        np,
+        tables.segments,
+        tables.views,
+        tables.runs,
+        tables.pool,
+    );
     if k < np {
         return Err(Refusal::Overlap(k + 1));
     }
-    if used_lack_final(sources, order, n, borrows) {
+    if used_lack_final(sources, order, n, tables.borrows) {
         return Err(Refusal::NoFinal);
     }
     grouped_named(
@@ -182,12 +180,7 @@ fn fit_named(
         prefixes,
         np,
         name,
-        segments,
-        views,
-        runs,
-        borrows,
-        ids,
-        pool,
+        tables,
         fresh,
         seq,
         owned,
@@ -212,12 +205,7 @@ pub fn union_named(
     order: &[u64],
     n: usize,
     name: Place,
-    segments: &[u64],
-    views: &[u64],
-    runs: &[u64],
-    borrows: &[u64],
-    ids: &[u64],
-    pool: &[u8],
+    tables: Tables,
     fresh: &[u64],
     seq: u64,
     prefixes: &mut [u64],
@@ -233,19 +221,19 @@ pub fn union_named(
 ) -> Result<ManifestRow, Refusal>
     requires n_le_most_sources { n ≤ most_sources }
     requires n_in_bounds { n * 7 ≤ length order.now }
-    requires n_value { sound_below lim (record { segments = segments.now; views = views.now; runs = runs.now; borrows = borrows.now; ids = ids.now; pool = pool.now }) sources.now order.now n ≡ true }
+    requires n_value { sound_below lim (lent_of tables) sources.now order.now n ≡ true }
     requires views_in_bounds { lim.fill.views * 2 ≤ length owned.old }
     requires borrows_in_bounds { most_sources * (lim.fill.borrows + 1) * 6 ≤ length groups.old }
     requires views_in_bounds_2 { most_sources * (lim.fill.ids + lim.fill.views) * 2 ≤ length sets.old }
     requires segments_in_bounds { most_sources * lim.fill.segments * 2 ≤ length prefixes.old }
-    ensures { record { answer = result; out = record { segments = out_segments.new; views = out_views.new; runs = out_runs.new; borrows = out_borrows.new; ids = out_ids.new; pool = out_pool.new } } ≡ union_by lim (named (bytes_in pool.now name)) (used_in (record { segments = segments.now; views = views.now; runs = runs.now; borrows = borrows.now; ids = ids.now; pool = pool.now }) sources.now order.now n) seq (uuids_of fresh.now) (record { segments = out_segments.old; views = out_views.old; runs = out_runs.old; borrows = out_borrows.old; ids = out_ids.old; pool = out_pool.old }) }
+    ensures { record { answer = result; out = record { segments = out_segments.new; views = out_views.new; runs = out_runs.new; borrows = out_borrows.new; ids = out_ids.new; pool = out_pool.new } } ≡ union_by lim (named (bytes_in tables.entry.pool.now name)) (used_in (lent_of tables.entry) sources.now order.now n) seq (uuids_of fresh.now) (record { segments = out_segments.old; views = out_views.old; runs = out_runs.old; borrows = out_borrows.old; ids = out_ids.old; pool = out_pool.old }) }
 {
     let np = all_prefixes(
         sources,
         order,
         n,
-        segments,
-        pool,
+        tables.segments,
+        tables.pool,
         lim.fill.segments,
         prefixes,
     );
@@ -257,12 +245,7 @@ pub fn union_named(
         prefixes,
         np,
         name,
-        segments,
-        views,
-        runs,
-        borrows,
-        ids,
-        pool,
+        tables,
         fresh,
         seq,
         owned,

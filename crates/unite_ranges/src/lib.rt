@@ -195,7 +195,7 @@ fn bounding_segments(
     q
 }
 
-// The bounding effective range of all views of a manifest: of its unsegmented tree and its segments.
+// The bounding effective range of all views of a manifest: of its unsegmented tree and its segments; none where there is no view.
 // inner
 pub fn bounding_range(
     t: TreeRow,

@@ -32,17 +32,11 @@ pub fn part_of_table(segments: &[u64], w: Window) -> &[u64]
     &segments[from..end]
 }
 
-fn lesser(a: usize, b: usize) -> usize
-    ensures { result ≡ min a b }
-{
-    if a < b { a } else { b }
-}
-
 // How many rows of the table lie in first..past.
 pub fn rows_in(table: &[u64], first: usize, past: usize) -> usize
     ensures { result ≡ length (shown table.now first past) }
 {
-    let end = lesser(past, table.len() / 12);
+    let end = past.min(table.len() / 12);
     if first < end {
         return end - first;
     }

@@ -1,5 +1,5 @@
 use mathlib.Core.Path.{◌∙◌}
-use Rattle.records.specs.Decode.{Lent}
+use Rattle.records.specs.Decode.{Lent, lent_of}
 use Rattle.copy.specs.Copy.{room_of}
 use Rattle.copy.proofs.Answers.{empty_fits, copy_front}
 use Rattle.copy.proofs.canonical_copy.Goals as goal
@@ -26,4 +26,4 @@ pub shape_of-out_pool : goal.shape_of-out_pool
 shape_of-out_pool c = c.copy_at.auto.out_pool
 
 pub returns : goal.returns
-returns c = let a = c.args in let x : Lent = record { segments = a.segments.now; views = a.views.now; runs = a.runs.now; borrows = a.borrows.now; ids = a.ids.now; pool = a.pool.now } in let o : Lent = record { segments = a.out_segments.now; views = a.out_views.now; runs = a.out_runs.now; borrows = a.out_borrows.now; ids = a.out_ids.now; pool = a.out_pool.now } in c.copy_at.ensures ∙ copy_front a.lim x a.m o
+returns c = let a = c.args in let x : Lent = lent_of a.tables in let o : Lent = record { segments = a.out_segments.now; views = a.out_views.now; runs = a.out_runs.now; borrows = a.out_borrows.now; ids = a.out_ids.now; pool = a.out_pool.now } in c.copy_at.ensures ∙ copy_front a.lim x a.m o

@@ -6,4 +6,4 @@ pub returns-then-out-n : goal.returns-then-out-n
 returns-then-out-n c = search (answers, rules)
 
 pub returns : goal.returns
-returns c = search (answers, c.well_formed.1.1.1.1.1.1.1.0, rules)
+returns c = search (answers, c.well_formed.1.1.0, rules)

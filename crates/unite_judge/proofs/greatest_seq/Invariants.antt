@@ -1,4 +1,3 @@
-use Prim.Native.Nat.{◌-◌}
 use Rattle.unite_judge.proofs.Judging.{Greatest}
 use Rattle.unite_judge.proofs.greatest_seq.Given as goal
 

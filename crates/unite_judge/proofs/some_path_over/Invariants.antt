@@ -1,4 +1,3 @@
-use Prim.Native.Nat.{◌-◌}
 use Rattle.unite_judge.proofs.Judging.{Short}
 use Rattle.unite_judge.proofs.some_path_over.Given as goal
 

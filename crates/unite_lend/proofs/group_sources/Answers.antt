@@ -1,11 +1,11 @@
 use native.Mathlib.Omega.{arith}
 use mathlib.Core.Path.{refl}
-use Rattle.records.specs.Decode.{Lent}
+use Rattle.records.specs.Decode.{Lent, lent_of}
 use Rattle.unite_lend.proofs.Gathering.{gathered_none, gathered_sound, gathered_own, gathered_groups, gathered_work, gathered_more, gathered_all, gathered_long}
 use Rattle.unite_lend.proofs.group_sources.Goals as goal
 
 pub loop-i-init : goal.loop-i-init
-loop-i-init c = let a = c.args in let l : Lent = record { segments = a.segments.now; views = a.views.now; runs = a.runs.now; borrows = a.borrows.now; ids = a.ids.now; pool = a.pool.now } in gathered_none _ _ _ _ _ _ _ _ _ _ _ _ c.requires.n_le_most_sources c.requires.n_value c.requires.views_in_bounds c.requires.borrows_in_bounds c.requires.views_in_bounds_2 refl refl refl
+loop-i-init c = let a = c.args in let l : Lent = lent_of a.tables in gathered_none _ _ _ _ _ _ _ _ _ _ _ _ c.requires.n_le_most_sources c.requires.n_value c.requires.views_in_bounds c.requires.borrows_in_bounds c.requires.views_in_bounds_2 refl refl refl
 
 pub group_at-g-requires : goal.group_at-g-requires
 group_at-g-requires c = let w = c.loop-i.invariant in let h = c.loop-i-test.true in record { i_in_bounds = omega (arith, c.requires.n_in_bounds, h); i_value = gathered_sound _ _ _ _ _ _ _ _ _ _ _ _ _ _ w h; n_in_bounds = c.requires.n_in_bounds_2; views_in_bounds = gathered_own _ _ _ _ _ _ _ _ _ _ _ _ _ _ w h; groups_value = w.ended; borrows_in_bounds = gathered_groups _ _ _ _ _ _ _ _ _ _ _ _ _ _ w h; views_in_bounds_2 = gathered_work _ _ _ _ _ _ _ _ _ _ _ _ _ _ w h }

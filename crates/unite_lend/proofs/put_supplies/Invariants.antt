@@ -1,4 +1,3 @@
-use Prim.Native.Nat.{◌-◌}
 use Rattle.unite_lend.proofs.Supplies.{Put}
 use Rattle.unite_lend.proofs.put_supplies.Given as goal
 

@@ -1,4 +1,3 @@
-use Prim.Native.Nat.{◌-◌}
 use Rattle.unite_lend.specs.Used.{lacks_at}
 use Rattle.unite_lend.proofs.Below.{Clear}
 use Rattle.unite_lend.proofs.used_lack_final.Given as goal

@@ -1,4 +1,3 @@
-use Prim.Native.Nat.{◌-◌}
 use Rattle.unite_lend.specs.Used.{segmented_at}
 use Rattle.unite_lend.proofs.Below.{Clear}
 use Rattle.unite_lend.proofs.used_segmented.Given as goal

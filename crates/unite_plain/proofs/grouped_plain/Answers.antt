@@ -1,4 +1,4 @@
-use Rattle.records.specs.Decode.{Lent}
+use Rattle.records.specs.Decode.{Lent, lent_of}
 use Rattle.borrows.specs.Clone.{uuids_of}
 use Rattle.unite_plain.proofs.Answers.{laid_used}
 use Rattle.unite_plain.proofs.grouped_plain.Goals as goal
@@ -10,4 +10,4 @@ pub given_plain-requires : goal.given_plain-requires
 given_plain-requires c = record { n_in_bounds = c.requires.n_in_bounds; count_in_bounds = c.group_used-count.ensures.result_in_bounds }
 
 pub returns : goal.returns
-returns c = let a = c.args in let l : Lent = record { segments = a.segments.now; views = a.views.now; runs = a.runs.now; borrows = a.borrows.now; ids = a.ids.now; pool = a.pool.now } in let o : Lent = record { segments = a.out_segments.now; views = a.out_views.now; runs = a.out_runs.now; borrows = a.out_borrows.now; ids = a.out_ids.now; pool = a.out_pool.now } in laid_used l a.sources.now a.order.now a.n a.lim a.seq (uuids_of a.fresh.now) o _ _ c.group_used-count.ensures.result_after c.given_plain.ensures
+returns c = let a = c.args in let l : Lent = lent_of a.tables in let o : Lent = record { segments = a.out_segments.now; views = a.out_views.now; runs = a.out_runs.now; borrows = a.out_borrows.now; ids = a.out_ids.now; pool = a.out_pool.now } in laid_used l a.sources.now a.order.now a.n a.lim a.seq (uuids_of a.fresh.now) o _ _ c.group_used-count.ensures.result_after c.given_plain.ensures

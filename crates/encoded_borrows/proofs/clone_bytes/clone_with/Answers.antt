@@ -1,5 +1,5 @@
 use mathlib.Core.Path.{◌∙◌}
-use Rattle.records.specs.Decode.{Lent}
+use Rattle.records.specs.Decode.{Lent, lent_of}
 use Rattle.borrows.proofs.Lending.{held_is}
 use Rattle.encoded_borrows.proofs.Clones.{laid_means}
 use Rattle.encoded_borrows.proofs.clone_bytes.clone_with.Goals as goal
@@ -11,4 +11,4 @@ pub write_laid-requires : goal.write_laid-requires
 write_laid-requires c = c.requires.m_value
 
 pub returns : goal.returns
-returns c = let a = c.args in let o : Lent = record { segments = a.out_segments.now; views = a.out_views.now; runs = a.out_runs.now; borrows = a.out_borrows.now; ids = a.out_ids.now; pool = a.out_pool.now } in let l : Lent = record { segments = a.segments.now; views = a.views.now; runs = a.runs.now; borrows = a.borrows.now; ids = a.ids.now; pool = a.pool.now } in c.write_laid.ensures ∙ laid_means _ _ _ _ _ _ o c.requires.out_pool_value _ _ _ _ c.cloned_judged-laid.ensures _ (held_is l a.m) c.requires.borrows_in_bounds
+returns c = let a = c.args in let o : Lent = record { segments = a.out_segments.now; views = a.out_views.now; runs = a.out_runs.now; borrows = a.out_borrows.now; ids = a.out_ids.now; pool = a.out_pool.now } in let l : Lent = lent_of a.tables in c.write_laid.ensures ∙ laid_means _ _ _ _ _ _ o c.requires.out_pool_value _ _ _ _ c.cloned_judged-laid.ensures _ (held_is l a.m) c.requires.borrows_in_bounds

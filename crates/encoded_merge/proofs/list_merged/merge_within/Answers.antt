@@ -8,13 +8,13 @@ use borrow.Author.Rules.{rules}
 use Rattle.encoded_merge.proofs.list_merged.merge_within.Goals as goal
 
 pub overflow_mul-a : goal.overflow_mul-a
-overflow_mul-a c = omega (arith, c.requires.segments_in_bounds.0, c.well_formed.1.1.1.1.1.1.1.1.1.1.1.0.0, c.least-a.ensures)
+overflow_mul-a c = omega (arith, c.requires.segments_in_bounds.0, c.well_formed.1.1.1.1.1.1.0.0, c.least-a.ensures)
 
 pub overflow_mul-b : goal.overflow_mul-b
-overflow_mul-b c = omega (arith, c.requires.segments_in_bounds.1, c.well_formed.1.1.1.1.1.1.1.1.1.1.1.1.0.0, c.least-b.ensures)
+overflow_mul-b c = omega (arith, c.requires.segments_in_bounds.1, c.well_formed.1.1.1.1.1.1.1.0.0, c.least-b.ensures)
 
 pub overflow_mul-c : goal.overflow_mul-c
-overflow_mul-c c = omega (arith, c.requires.segments_in_bounds.2, c.well_formed.1.1.1.1.1.1.1.1.1.1.1.1.1.0.0, c.least-c.ensures)
+overflow_mul-c c = omega (arith, c.requires.segments_in_bounds.2, c.well_formed.1.1.1.1.1.1.1.1.0.0, c.least-c.ensures)
 
 pub slice_bounds-merge_into-end : goal.slice_bounds-merge_into-end
 slice_bounds-merge_into-end c = omega (arith, c.requires.segments_in_bounds.0, c.least-a.ensures)
