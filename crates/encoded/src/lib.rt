@@ -15,7 +15,7 @@ pub use bytes_read::{has_tables, read, rows_of};
 use records::{ManifestRow, Refusal};
 
 // What insert answers: the place of a prefix that was held, or the place at which it entered and how many bytes the manifest with
-// it has.
+// it has. Both arms have a value of their own, and neither is an absence or a failure.
 #[derive(Clone, Copy)]
 pub enum InsertedTo {
     Found(usize),

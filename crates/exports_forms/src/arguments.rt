@@ -43,7 +43,7 @@ pub fn is_odd(r: &[u64; 6]) -> bool
     2 < r[0] || 2 < r[3]
 }
 
-// The global range, where there is one.
+// The global range, where there is one: C says so by a number.
 fn global_arg(flag: u64, r: &[u64; 6]) -> Option<Range>
     ensures { result ≡ global_arg flag r.now }
 {
@@ -53,7 +53,7 @@ fn global_arg(flag: u64, r: &[u64; 6]) -> Option<Range>
     Some(range_arg(r))
 }
 
-// The filter, where there is one.
+// The filter, where there is one: C says so by a number.
 fn filter_arg(flag: u64, keeps: u64, mask: u64) -> Option<(bool, u64)>
     ensures { result ≡ filter_arg flag keeps mask }
 {

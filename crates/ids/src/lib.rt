@@ -20,7 +20,7 @@ pub struct SstId(pub u64, pub u64);
 #[derive(Clone, Copy)]
 pub struct Uuid(pub u64, pub u64);
 
-// An id of one of the types: two halves, the high one first.
+// An id of one of the types: two halves, the high one first. Its impls are written out, since one made by a macro is refused.
 pub trait Id: Copy {
     ghost halves: { Self → ℕ × ℕ };
 

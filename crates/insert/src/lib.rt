@@ -24,7 +24,7 @@ use segments::find_place;
 use with_one_more::put_entered;
 
 // What insert answers: the place of a prefix that was held, or the place at which it entered and the manifest with it, in
-// the output tables.
+// the output tables. Both arms have a value of their own, and neither is an absence or a failure.
 #[derive(Clone, Copy)]
 pub enum Inserted {
     Found(usize),

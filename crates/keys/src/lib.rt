@@ -38,7 +38,7 @@ pub fn common(a: &[u8], b: &[u8]) -> usize
     n
 }
 
-// The first byte that differs decides; of two keys one of which begins the other, the shorter is less.
+// The first byte that differs decides; of two keys one of which begins the other, the shorter is less: `cmp`, with the order of specs/.
 #[tactic(auto, using(crate::proofs::Shared::order_is))]
 pub fn compare(a: &[u8], b: &[u8]) -> Ordering
     ensures { result ≡ order_of a.now b.now }

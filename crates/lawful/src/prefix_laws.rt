@@ -71,7 +71,7 @@ fn stand_apart(segments: &[u64], pool: &[u8], w: Window) -> bool
     false
 }
 
-// L2 and L3. L2 is in the answer, since L3 is judged by it.
+// L2 and L3: L2 is in the answer, since each prefix is held against the next alone.
 pub fn l3(tables: Tables, m: ManifestRow) -> bool
     ensures { result ≡ (l2_of (manifest_in (lent_of tables.entry) m) && l3_of (manifest_in (lent_of tables.entry) m)) }
 {

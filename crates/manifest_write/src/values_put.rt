@@ -110,7 +110,7 @@ pub fn add_optional_bin(x: Option<Place>, pool: &[u8], out: &mut [u8], at: usize
     }
 }
 
-// A bound that has a key: 0 included, 1 excluded.
+// A bound that has a key: 0 included, 1 excluded, the numbers that the format has.
 fn add_keyed(kind: u64, pool: &[u8], from: usize, len: usize, out: &mut [u8], at: usize) -> usize
     ensures { Wrote out.old at (group_bytes (uint_bytes kind ∷ bin_bytes (part_of pool.now from len) ∷ [])) result out.new }
 {

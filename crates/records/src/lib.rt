@@ -143,7 +143,7 @@ pub enum Refusal {
     NotTheRecord(usize),
 }
 
-// A refusal as document 01 numbers it.
+// A refusal as document 01 numbers it, for callers in C.
 #[derive(Clone, Copy)]
 pub struct Told {
     pub number: usize,
@@ -251,7 +251,7 @@ pub fn limits_01() -> Limits
     }
 }
 
-// A code and two numbers, as they stand in a row.
+// A code and two numbers, as they stand in a row: the lent tables hold words, and a variant is a code there.
 #[derive(Clone, Copy)]
 pub struct Cell {
     pub code: u64,
@@ -259,7 +259,7 @@ pub struct Cell {
     pub b: u64,
 }
 
-// A visible range's code and its two bounds.
+// A visible range's code and its two bounds, as words.
 #[derive(Clone, Copy)]
 pub struct Cells {
     pub code: u64,

@@ -30,7 +30,7 @@ pub enum Looked {
     Absent,
 }
 
-// What a selection answers: the window counts from the manifest's own first segment.
+// What a selection answers: the window counts from the manifest's own first segment. Unsegmented is an answer, and no absence.
 #[derive(Clone, Copy)]
 pub enum Selected {
     Unsegmented,

@@ -159,7 +159,7 @@ pub fn arrange_sources(
 
 // ---- the names
 
-// Whether two names are the same. An absent one is no empty one.
+// Whether two names are the same. An absent one is no empty one. Two places may hold the same bytes, so no `==` says it.
 fn same_name(pool: &[u8], a: Option<Place>, b: Option<Place>) -> bool
     ensures { result ≡ same_name (name_in pool.now a) (name_in pool.now b) }
 {

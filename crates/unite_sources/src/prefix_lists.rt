@@ -41,7 +41,7 @@ fn place_of(list: &[u64], n: usize, p: &[u8], pool: &[u8]) -> usize
     n
 }
 
-// Whether the bytes of row `i` are `p`.
+// Whether the bytes of row `i` are `p`: `is_eq`, with the contract that the loop cites.
 fn is_same(list: &[u64], i: usize, p: &[u8], pool: &[u8]) -> bool
     requires { (i + 1) * 2 ≤ length list.now }
     ensures { result ≡ same_of p.now (bytes_in pool.now (place_at list.now (i * 2))) }

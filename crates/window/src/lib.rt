@@ -2,7 +2,7 @@
 // the work is done by functions on the slice and the numbers.
 #![tactic(auto)]
 
-ghost use Rattle.std.specs.Prelude.{◌≡◌, min, length};
+ghost use Rattle.std.specs.Prelude.{◌≡◌, length};
 ghost use Rattle.window.specs.Rows.{part_in, shown, read_of, first_in, past_in, view_of, selected_in};
 
 use records::{Refusal, SegmentRow, segment_at};
