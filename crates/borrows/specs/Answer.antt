@@ -25,7 +25,7 @@ pub record OwnedOutcome : Type 0 where
   pub answer : Result ℕ Refusal
   pub out : List ℕ
 
--- "(Result ℕ Refusal) ids ask places in the id table"
+-- "Owned ids ask places in the id table"
 abbrev pub id_room : List ℕ → Fill
 id_room out = ids (length out / 2)
 

@@ -26,17 +26,19 @@ pub fn first_naming(borrows: &[u64], w: Window, ids: &[u64], x: SstId) -> usize
     ensures { result ≡ first_naming (borrows_in borrows.now ids.now [] w) x }
 {
     let n = held(w, borrows.len() / 9);
-    for k in 0..n {
+    let mut passed = 0;
+    'lists: for k in 0..n {
         let b = borrow_at(borrows, w.first + k);
         let list = b.ids;
         let count = held(list, ids.len() / 2);
         for j in 0..count {
             if same(id_at(ids, list.first + j), x) {
-                return k;
+                break 'lists;
             }
         }
+        passed = k + 1;
     }
-    n
+    passed
 }
 
 fn is_borrowed(borrows: &[u64], w: Window, ids: &[u64], x: SstId) -> bool

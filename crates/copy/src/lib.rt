@@ -154,7 +154,14 @@ pub fn put_manifest(
     ensures out_ids_after { out_ids.new ≡ write out_ids.old (c.ids * 2) (layout_at c (manifest_in (lent_of tables.entry) m)).ids }
     ensures out_pool_after { out_pool.new ≡ write out_pool.old c.bytes (layout_at c (manifest_in (lent_of tables.entry) m)).pool }
 {
-    let t = m.tree;
+    // Field by field: where `m.tree` is handed on as it stands, LLVM copies all of `m` before, by a call of memcpy, and the archive of the
+    // calls on tables is to need no such name from outside.
+    let t = TreeRow {
+        view: m.tree.view,
+        sst: m.tree.sst,
+        l0: m.tree.l0,
+        compacted: m.tree.compacted,
+    };
     let w = m.segments;
     let n = m.segment_extractor_name;
     let b = m.external_dbs;

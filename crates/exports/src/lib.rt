@@ -14,6 +14,7 @@ ghost use Rattle.encoded.specs.Read.{read_to};
 ghost use Rattle.encoded.specs.Lookup.{lookup_of};
 ghost use Rattle.encoded.specs.Insert.{insert_to};
 ghost use Rattle.encoded_merge.specs.Merge.{merge_to};
+ghost use Rattle.merge.specs.declared.Side.TheVariants.{Writer, Compactor};
 ghost use Rattle.encoded_borrows.specs.Owned.{owned_to};
 ghost use Rattle.encoded_borrows.specs.Clone.{clone_to};
 ghost use Rattle.exports_forms.specs.Arguments.{room_fill, uuid_arg};
@@ -181,6 +182,91 @@ pub fn manifest_merge(
         out,
     );
     written_answer(w)
+}
+
+// The segments of the writer's manifest, each tree merged with the compactor's: 0, and how many bytes of `out` the encoded list fills.
+// The tables whose names begin with `both` have room for two manifests, `pool` for the bytes of one.
+pub fn manifest_merge_from_writer(
+    writer: &[u8],
+    compactor: &[u8],
+    room: &[u64; 6],
+    segments: &mut [u64],
+    views: &mut [u64],
+    runs: &mut [u64],
+    borrows: &mut [u64],
+    ids: &mut [u64],
+    both_segments: &mut [u64],
+    both_views: &mut [u64],
+    both_runs: &mut [u64],
+    both_borrows: &mut [u64],
+    both_ids: &mut [u64],
+    both_pool: &mut [u8],
+    pool: &mut [u8],
+    out: &mut [u8],
+) -> Answer
+    ensures { record { answer = result; out = out.new } ≡ wrote_reply (merge_to Writer limits01 writer.now compactor.now (room_fill room.now) (lent segments.old views.old runs.old borrows.old ids.old []) (lent both_segments.old both_views.old both_runs.old both_borrows.old both_ids.old both_pool.old) pool.old out.old) }
+{
+    manifest_merge(
+        Side::Writer,
+        writer,
+        compactor,
+        room,
+        segments,
+        views,
+        runs,
+        borrows,
+        ids,
+        both_segments,
+        both_views,
+        both_runs,
+        both_borrows,
+        both_ids,
+        both_pool,
+        pool,
+        out,
+    )
+}
+
+// The segments of either manifest that are not empty once merged: the same.
+pub fn manifest_merge_from_compactor(
+    writer: &[u8],
+    compactor: &[u8],
+    room: &[u64; 6],
+    segments: &mut [u64],
+    views: &mut [u64],
+    runs: &mut [u64],
+    borrows: &mut [u64],
+    ids: &mut [u64],
+    both_segments: &mut [u64],
+    both_views: &mut [u64],
+    both_runs: &mut [u64],
+    both_borrows: &mut [u64],
+    both_ids: &mut [u64],
+    both_pool: &mut [u8],
+    pool: &mut [u8],
+    out: &mut [u8],
+) -> Answer
+    ensures { record { answer = result; out = out.new } ≡ wrote_reply (merge_to Compactor limits01 writer.now compactor.now (room_fill room.now) (lent segments.old views.old runs.old borrows.old ids.old []) (lent both_segments.old both_views.old both_runs.old both_borrows.old both_ids.old both_pool.old) pool.old out.old) }
+{
+    manifest_merge(
+        Side::Compactor,
+        writer,
+        compactor,
+        room,
+        segments,
+        views,
+        runs,
+        borrows,
+        ids,
+        both_segments,
+        both_views,
+        both_runs,
+        both_borrows,
+        both_ids,
+        both_pool,
+        pool,
+        out,
+    )
 }
 
 // The ids that a manifest uses and borrows from no one: 0, and how many ids stand at the front of `out`, two words each.

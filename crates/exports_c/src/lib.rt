@@ -1,5 +1,5 @@
-// The C functions of the archive libexports.a: each calls the function of `exports` that has its name, both merges the one merge, and
-// promises the same. The library itself has no C symbols, so that programs here can use it beside the archive.
+// The C functions of the archive libexports.a: each calls the function of `exports` that has its name, and promises the same. The library
+// itself has no C symbols, so that programs here can use it beside the archive.
 #![tactic(auto)]
 
 ghost use Rattle.std.specs.Prelude.{◌≡◌, []};
@@ -20,7 +20,6 @@ ghost use Rattle.exports_forms.specs.Replies.{told, wrote_reply, owned_reply};
 ghost use Rattle.exports.specs.Calls.{select_by, insert_reply, project_by, project_reply};
 
 use exports_forms::Answer;
-use merge::Side;
 
 #[unsafe(no_mangle)]
 pub extern "C" fn manifest_read(
@@ -129,8 +128,7 @@ pub extern "C" fn manifest_merge_from_writer(
 ) -> Answer
     ensures { record { answer = result; out = out.new } ≡ wrote_reply (merge_to Writer limits01 writer.now compactor.now (room_fill room.now) (lent segments.old views.old runs.old borrows.old ids.old []) (lent both_segments.old both_views.old both_runs.old both_borrows.old both_ids.old both_pool.old) pool.old out.old) }
 {
-    exports::manifest_merge(
-        Side::Writer,
+    exports::manifest_merge_from_writer(
         writer,
         compactor,
         room,
@@ -171,8 +169,7 @@ pub extern "C" fn manifest_merge_from_compactor(
 ) -> Answer
     ensures { record { answer = result; out = out.new } ≡ wrote_reply (merge_to Compactor limits01 writer.now compactor.now (room_fill room.now) (lent segments.old views.old runs.old borrows.old ids.old []) (lent both_segments.old both_views.old both_runs.old both_borrows.old both_ids.old both_pool.old) pool.old out.old) }
 {
-    exports::manifest_merge(
-        Side::Compactor,
+    exports::manifest_merge_from_compactor(
         writer,
         compactor,
         room,

@@ -34,22 +34,22 @@ module _ (a b c d : ℕ) (fa : a < 2 ^ 64) (fb : b < 2 ^ 64) (fc : c < 2 ^ 64) (
       (p.0, (be_apart 8 b d [] [] fb fd (ap (λ l. l ++ []) p.1)).0)
 
   -- what each comparison of the halves says
-  less_high : a < c → Less ≡ order_of (id_bytes a b) (id_bytes c d)
+  pub less_high : a < c → Less ≡ order_of (id_bytes a b) (id_bytes c d)
   less_high h = sym (rw (lt-ltb a c h) at id_order)
 
-  more_high : c < a → Greater ≡ order_of (id_bytes a b) (id_bytes c d)
+  pub more_high : c < a → Greater ≡ order_of (id_bytes a b) (id_bytes c d)
   more_high h = sym (rw (le-ltb a c (omega arith), lt-ltb c a h) at id_order)
 
   by_low : c ≤ a → a ≤ c → order_of (id_bytes a b) (id_bytes c d) ≡ pick (ltb b d) Less (pick (ltb d b) Greater Equal)
   by_low k l = rw (le-ltb a c k, le-ltb c a l) at id_order
 
-  less_low : c ≤ a → a ≤ c → b < d → Less ≡ order_of (id_bytes a b) (id_bytes c d)
+  pub less_low : c ≤ a → a ≤ c → b < d → Less ≡ order_of (id_bytes a b) (id_bytes c d)
   less_low k l h = sym (rw (lt-ltb b d h) at (by_low k l))
 
-  more_low : c ≤ a → a ≤ c → d < b → Greater ≡ order_of (id_bytes a b) (id_bytes c d)
+  pub more_low : c ≤ a → a ≤ c → d < b → Greater ≡ order_of (id_bytes a b) (id_bytes c d)
   more_low k l h = sym (rw (le-ltb b d (omega arith), lt-ltb d b h) at (by_low k l))
 
-  same_low : c ≤ a → a ≤ c → d ≤ b → b ≤ d → Equal ≡ order_of (id_bytes a b) (id_bytes c d)
+  pub same_low : c ≤ a → a ≤ c → d ≤ b → b ≤ d → Equal ≡ order_of (id_bytes a b) (id_bytes c d)
   same_low k l m n = sym (rw (le-ltb b d m, le-ltb d b n) at (by_low k l))
 
   -- two ids order as their halves do

@@ -19,6 +19,25 @@ sst_bytes a = id_bytes a.0 a.1
 abbrev pub uuid_bytes : Uuid → List ℕ
 uuid_bytes a = id_bytes a.0 a.1
 
+-- An id of each type as its two halves, and the id of two halves: what the trait `Id` says of each type.
+abbrev pub view_halves : ViewId → ℕ × ℕ
+view_halves x = (x.0, x.1)
+
+abbrev pub view_of : ℕ → ℕ → ViewId
+view_of high low = (high, low)
+
+abbrev pub sst_halves : SstId → ℕ × ℕ
+sst_halves x = (x.0, x.1)
+
+abbrev pub sst_of : ℕ → ℕ → SstId
+sst_of high low = (high, low)
+
+abbrev pub uuid_halves : Uuid → ℕ × ℕ
+uuid_halves x = (x.0, x.1)
+
+abbrev pub uuid_of : ℕ → ℕ → Uuid
+uuid_of high low = (high, low)
+
 -- whether the id of a, b is that of c, d: both halves are the same
 abbrev pub same_of : ℕ → ℕ → ℕ → ℕ → Bool
 same_of a b c d = eqb a c && eqb b d

@@ -3,7 +3,7 @@
 
 ghost use Rattle.std.specs.Prelude.{◌≡◌, ℕ, refl};
 ghost use Rattle.keys.specs.Key.{order_of};
-ghost use Rattle.ids.specs.Id.{same_halves, marks_of, bytes_of};
+ghost use Rattle.ids.specs.Id.{same_halves, marks_of, bytes_of, view_halves, view_of, sst_halves, sst_of, uuid_halves, uuid_of};
 ghost use Rattle.ids.specs.Names.{ids_of, names_of};
 
 use std::cmp::Ordering;
@@ -40,9 +40,9 @@ pub trait Id: Copy {
 }
 
 impl Id for ViewId {
-    ghost halves = { λ x. (x.0, x.1) };
+    ghost halves = { view_halves };
 
-    ghost of = { λ high low. (high, low) };
+    ghost of = { view_of };
 
     ghost halves_of = { λ high low. refl };
 
@@ -58,9 +58,9 @@ impl Id for ViewId {
 }
 
 impl Id for SstId {
-    ghost halves = { λ x. (x.0, x.1) };
+    ghost halves = { sst_halves };
 
-    ghost of = { λ high low. (high, low) };
+    ghost of = { sst_of };
 
     ghost halves_of = { λ high low. refl };
 
@@ -76,9 +76,9 @@ impl Id for SstId {
 }
 
 impl Id for Uuid {
-    ghost halves = { λ x. (x.0, x.1) };
+    ghost halves = { uuid_halves };
 
-    ghost of = { λ high low. (high, low) };
+    ghost of = { uuid_of };
 
     ghost halves_of = { λ high low. refl };
 

@@ -2,7 +2,7 @@
 use Prim.Native.Nat.{ℕ, ◌+◌, ◌-◌, ◌≤◌, ◌<◌}
 use mathlib.Core.Path.{◌≡◌, sym, ◌∙◌}
 use mathlib.Core.List.{List}
-use mathlib.Core.Bool.{false}
+use mathlib.Core.Bool.{true, false}
 use native.Mathlib.Omega.{arith}
 use lib.Dec.{leb}
 use borrow.Author.Tests.{lt-leb}
@@ -14,6 +14,16 @@ use Rattle.keys.specs.Pool.{later_in, earlier_in, meet_in}
 use Rattle.keys.specs.declared.Bound.{Bound}
 use Rattle.keys.specs.declared.Range.{Range}
 use Rattle.keys.proofs.Says.{says_same, says_le}
+
+module _ (o q : Ordering) (e : o ≡ q) where
+  pub is_less_lem : o ≡ Less → true ≡ is_less q
+  is_less_lem h = rw (sym e ∙ h)
+
+  pub is_equal_lem : o ≡ Equal → false ≡ is_less q
+  is_equal_lem h = rw (sym e ∙ h)
+
+  pub is_greater : o ≡ Greater → false ≡ is_less q
+  is_greater h = rw (sym e ∙ h)
 
 module _ (A : Type 0) (o q : Ordering) (x y : A) (e : o ≡ q) where
   pub take_less : o ≡ Less → x ≡ pick (is_less q) x y

@@ -35,11 +35,11 @@ module _ (a b : List ℕ) (i : ℕ) (w : Walked a b i) where
   ends : shared_of (drop i a) (drop i b) ≡ 0 → i ≡ shared_of a b
   ends e = let h : i + shared_of (drop i a) (drop i b) ≡ shared_of a b = w.rest in omega arith
 
-  walked_left : length a ≤ i → i ≡ shared_of a b
+  pub walked_left : length a ≤ i → i ≡ shared_of a b
   unfolding shared_of
   walked_left h = ends (rw (drop_of_length-le a h))
 
-  walked_right : i < length a → length b ≤ i → i ≡ shared_of a b
+  pub walked_right : i < length a → length b ≤ i → i ≡ shared_of a b
   unfolding shared_of
   walked_right h k = ends (rw (drop-cons a i 0 h, drop_of_length-le b k))
 

@@ -36,6 +36,7 @@ fn has(len: usize, at: usize, n: usize) -> bool
 }
 
 // A nil, a flag, a number, or the head of an array.
+#[inline(always)]
 pub fn add_head(h: Head, out: &mut [u8], at: usize) -> usize
     ensures { Wrote out.old at (head_bytes h) result out.new }
 {

@@ -12,8 +12,11 @@ pub fn skip_many(s: &[u8], at: usize, room: usize, n: u64) -> Result<usize, usiz
     ensures { result ≡ many_of (value_of s.now room) n at }
 {
     let mut p = at;
-    for _ in 0..n {
+    let mut left = n;
+    // No `for`: what falls is the bytes that are left, and not the count, which a head of five bytes may put at four billion.
+    while 0 < left {
         p = skip_value(s, p, room)?;
+        left -= 1;
     }
     Ok(p)
 }

@@ -8,8 +8,8 @@ ghost use Rattle.keys.specs.BigEndian.{be_bytes};
 ghost use Rattle.msgpack_put.specs.Sign.{sign_of};
 ghost use Rattle.msgpack_put.specs.Write.{uint_bytes, minus_bytes, array_bytes, bin_head, head_bytes, bin_bytes, id_part, tagged_bytes, Put};
 
-// A nil, a flag, a number that is not negative, minus one minus a number; or what stands before the elements of an array
-// or the bytes of a bin, by how many they are.
+// A nil, a flag, a number that is not negative, minus one minus a number (below 2^63, as `sign_of` makes them: what is read from 2^63 on
+// is another number); or what stands before the elements of an array or the bytes of a bin, by how many they are.
 #[derive(Clone, Copy)]
 pub enum Head {
     Nil,
@@ -21,7 +21,6 @@ pub enum Head {
 }
 
 // The head of a signed number.
-// inner
 pub fn sign_of(x: i64) -> Head
     ensures { result ≡ sign_of x }
 {
@@ -101,6 +100,7 @@ fn bin_form(n: u64) -> Tagged
 
 // The shortest form of what a head stands for.
 #[tactic(auto, unfolding(keys::specs::BigEndian::be_bytes))]
+#[inline(always)]
 fn form(h: Head) -> Tagged
     ensures { (head_bytes h ≡ tagged_bytes result) × (result.1 ≤ 8) }
 {
@@ -116,6 +116,7 @@ fn form(h: Head) -> Tagged
 }
 
 // How many bytes `put_head` writes.
+#[inline(always)]
 pub fn head_len(h: Head) -> usize
     ensures { result ≡ length (head_bytes h) }
 {
@@ -148,6 +149,7 @@ fn put_tagged(out: &mut [u8], at: usize, t: Tagged) -> usize
 }
 
 // inner
+#[inline(always)]
 pub fn put_head(out: &mut [u8], at: usize, h: Head) -> usize
     requires { at + length (head_bytes h) ≤ length out.old }
     ensures { Put out.old at (head_bytes h) result out.new }

@@ -44,7 +44,9 @@ pub fn put<T: Copy>(src: &[T], out: &mut [T], at: usize) -> usize
     ensures value { result ≡ at + length src.now }
     ensures out_after { out.new ≡ write out.old at src.now }
 {
-    let end = at + src.len();
-    out[at..end].copy_from_slice(src);
-    end
+    // No `copy_from_slice`: LLVM makes a call of memmove of it, and the archives for C are to need none.
+    for k in 0..src.len() {
+        out[at + k] = src[k];
+    }
+    at + src.len()
 }

@@ -1,4 +1,4 @@
-use Prim.Native.Nat.{◌-◌}
+use Rattle.std.proofs.Common.{◌≡◌}
 use mathlib.Core.Bool.{not}
 use mathlib.Core.List.{[]}
 use Rattle.ids.specs.Names.{names_of}
@@ -12,5 +12,5 @@ use Rattle.borrows.proofs.ids_owned.first_naming.Given as goal
 abbrev pub invariant-loop-j : goal.invariant-loop-j
 invariant-loop-j l = Passed (not (names_of (ids_in l.ids l.list) l.x)) (other l.ids l.list l.x) l.count l.j
 
-abbrev pub invariant-loop-k : goal.invariant-loop-k
-invariant-loop-k l = Led (first_naming (borrows_in l.borrows l.ids [] l.w) l.x) (unnamed l.borrows l.ids l.w l.x) l.n l.k
+abbrev pub invariant-lists : goal.invariant-lists
+invariant-lists l = Led (first_naming (borrows_in l.borrows l.ids [] l.w) l.x) (unnamed l.borrows l.ids l.w l.x) l.n l.passed × (l.passed ≡ l.k)

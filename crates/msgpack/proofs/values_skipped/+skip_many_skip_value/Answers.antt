@@ -1,24 +1,28 @@
-use Rattle.std.proofs.Common.{refl, sym, ◌≡◌, ◌∙◌, ◌+◌, ◌-◌, arith}
+use Rattle.std.proofs.Common.{refl, sym, ◌∙◌, arith}
 use Rattle.std.proofs.lemmas.Result.{err_from_is_err_and}
 use Rattle.msgpack.specs.Skip.{skip_head}
+use Rattle.msgpack.proofs.Ahead.{past_within}
 use Rattle.msgpack.proofs.Skips.{many_end, many_past, many_bad, value_shut, value_open, value_map, value_flat}
 use Rattle.msgpack.proofs.values_skipped.+skip_many_skip_value.Goals as goal
 
 pub skip_many-returns-in_err-p : goal.skip_many-returns-in_err-p
 unfolding skip_head
-skip_many-returns-in_err-p t c = let l = c.loop in
+skip_many-returns-in_err-p t c = let l = c.loop-left in
     let q = err_from_is_err_and c.from_residual.result c.from_residual.ensures.1 in
-    rw (q.1, q.2) (sym (sym l.invariant ∙ many_bad _ (c.args.n - l.counter) l.p _ (omega (arith, c.loop-test.true)) (sym c.skip_value.ensures ∙ c.in_err-p.was)))
+    rw (q.1, q.2) (sym (sym l.invariant ∙ many_bad _ l.left l.p _ (omega arith) (sym c.skip_value.ensures ∙ c.in_err-p.was)))
 
-pub skip_many-loop-preserved : goal.skip_many-loop-preserved
+pub skip_many-loop-left-smaller : goal.skip_many-loop-left-smaller
 unfolding skip_head
-skip_many-loop-preserved t c = let l = c.loop in
-    let e : c.args.n - (l.counter + 1) ≡ c.args.n - l.counter - 1 = omega arith in
-    rw e (sym (many_past _ (c.args.n - l.counter) l.p _ (omega (arith, c.loop-test.true)) (sym c.skip_value.ensures ∙ c.in_ok-p.was)) ∙ l.invariant)
+skip_many-loop-left-smaller t c = omega (arith, past_within _ _ _ _ (sym c.skip_value.ensures ∙ c.in_ok-p.was))
+
+pub skip_many-loop-left-preserved : goal.skip_many-loop-left-preserved
+unfolding skip_head
+skip_many-loop-left-preserved t c = let l = c.loop-left in
+    sym (many_past _ l.left l.p _ (omega arith) (sym c.skip_value.ensures ∙ c.in_ok-p.was)) ∙ l.invariant
 
 pub skip_many-returns : goal.skip_many-returns
 unfolding skip_head
-skip_many-returns t c = let l = c.loop in sym (many_end _ (c.args.n - l.counter) l.p (omega (arith, c.loop-test.false))) ∙ l.invariant
+skip_many-returns t c = let l = c.loop-left in sym (many_end _ l.left l.p (omega arith)) ∙ l.invariant
 
 pub skip_value-returns-in-Nil : goal.skip_value-returns-in-Nil
 unfolding skip_head

@@ -1,5 +1,6 @@
--- The cycle {skip_many, skip_value}. A call of itself falls by the room. The loop's invariant: what is still to be skipped has the answer of the whole.
-use Rattle.std.proofs.Common.{◌≡◌, ◌+◌, ◌-◌, ◌*◌}
+-- The cycle {skip_many, skip_value}. A call of itself falls by the room, and `skip_many`'s loop by the bytes that are left:
+-- each value takes one at least (`past_within`). The loop's invariant: what is still to be skipped has the answer of the whole.
+use Rattle.std.proofs.Common.{◌≡◌, ◌+◌, ◌-◌, ◌*◌, length}
 use Rattle.msgpack.specs.Skip.{many_of, value_of}
 use Rattle.msgpack.proofs.values_skipped.+skip_many_skip_value.Given as goal
 
@@ -9,5 +10,8 @@ decreases-skip_many l = 2 * l.room + 1
 abbrev pub decreases-skip_value : goal.decreases-skip_value
 decreases-skip_value l = 2 * l.room
 
-abbrev pub invariant-skip_many-loop : goal.invariant-skip_many-loop
-invariant-skip_many-loop l = many_of (value_of l.s l.room) (l.n - l.counter) l.p ≡ many_of (value_of l.s l.room) l.n l.at
+abbrev pub invariant-skip_many-loop-left : goal.invariant-skip_many-loop-left
+invariant-skip_many-loop-left l = many_of (value_of l.s l.room) l.left l.p ≡ many_of (value_of l.s l.room) l.n l.at
+
+abbrev pub decreases-skip_many-loop-left : goal.decreases-skip_many-loop-left
+decreases-skip_many-loop-left l = length l.s - l.p
