@@ -1,5 +1,7 @@
 -- `ids::names` meets its contract. The loop's invariant: what is left of the words names `x` exactly if all of them do. Assumes
 -- nothing.
+use borrow.Author.Rules.{rules}
+use lib.Seq.{take_all}
 use Rattle.ids.proofs.Words.{left_none, left_here, left_more, left_all}
 use Rattle.ids.proofs.names.Goals as goal
 
@@ -7,7 +9,7 @@ pub loop-words-init : goal.loop-words-init
 loop-words-init c =
     let e = c.into_iter-words-iterator.ensures.into_iter_gives in
     let m = c.chunks_exact-words-items.ensures in
-    left_none _ _ _ _ (rw e m.rest) (rw e m.size)
+    left_none _ _ _ _ (search (e, m.rest, take_all, rules)) (rw e m.size)
 
 pub returns-then-same : goal.returns-then-same
 returns-then-same c =

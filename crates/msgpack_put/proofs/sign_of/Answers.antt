@@ -1,5 +1,6 @@
 use mathlib.Core.Path.{◌≡◌}
 use mathlib.Core.Bool.{true, false}
+use borrow.Author.Rules.{rules}
 use mir.Facts.{to_z-of_z}
 use lib.IntN.{pos}
 use lib.Signed.{lt_z}
@@ -28,7 +29,7 @@ overflow_cast-result-else-x-lt0 c = let f = c.ranges.x in
 pub returns-then-x-lt0 : goal.returns-then-x-lt0
 returns-then-x-lt0 c = let f = c.ranges.x in
     let t : lt_z c.args.x (pos 0) ≡ true = rw (to_z-of_z f) at c.if-x-lt0.true in
-    rw (to_z-of_z f, to_z-of_z (minus_fits _ f)) (below _ f t).is
+    search ((below _ f t).is, to_z-of_z f, to_z-of_z (minus_fits _ f), rules)
 
 -- src/lib.rt:26:1
 pub returns-else-x-lt0 : goal.returns-else-x-lt0
